@@ -6,3 +6,4 @@ pub mod Units
 pub mod Turns
 pub mod Checkpoints
 pub mod Trust
+pub mod Continuations

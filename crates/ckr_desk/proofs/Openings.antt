@@ -10,5 +10,5 @@ pub mod NextPoints
 pub mod RecordTest
 pub mod Trust
 pub mod FreshDisks
-pub mod RunRecords
+pub mod DeckRecords
 pub mod Syncs

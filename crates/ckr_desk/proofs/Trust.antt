@@ -2,4 +2,3 @@ pub mod Events
 pub mod Sameness
 pub mod Conditions
 pub mod Counts
-pub mod Restartless

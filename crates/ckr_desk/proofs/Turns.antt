@@ -1,7 +1,7 @@
 pub mod Answers
 pub mod Stops
 pub mod Checkpoints
-pub mod PlainEvents
+pub mod QuietEvents
 pub mod Decided
 pub mod Events
 pub mod Plans

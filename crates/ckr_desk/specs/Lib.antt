@@ -4,7 +4,6 @@ pub mod Requests
 pub mod Turn
 pub mod Errors
 pub mod Entries
-pub mod Restartless
 pub mod Opening
 pub mod Replay
 pub mod Soundness
@@ -18,3 +17,4 @@ pub mod NoChange
 pub mod CallOutcomes
 pub mod Preparation
 pub mod Model
+pub mod Continuation

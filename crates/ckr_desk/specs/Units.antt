@@ -19,10 +19,9 @@ use Rattle.ckr_steps.specs.Places.{GoesOn, ShowsWithin, IsStepPlace}
 use Rattle.ckr_steps.specs.StepUnit.{HasWorked}
 use Rattle.ckr_steps.specs.Writes.{ChangesKeeping, StemsKeeping}
 use Rattle.ckr_desk_store.specs.OpenImages.{event_records, Opens}
-use Rattle.ckr_desk_memory.specs.ForwardEvents.{is_forward_event}
 use Rattle.ckr_desk_turn.specs.Invariant.{IsTurnOf}
 use Rattle.ckr_desk_turn.specs.declared.plan.Plan.{Plan}
-use Rattle.ckr_desk_turn.specs.declared.plan.Plan.TheVariants.{Rest, Tell, Work, Pass, Take, Ask, Wait}
+use Rattle.ckr_desk_turn.specs.declared.plan.Plan.TheVariants.{Tell, Work, Pass, Take, Ask, Wait}
 use Rattle.ckr_desk_turn.specs.declared.reply.Chkpt.{Chkpt}
 use Rattle.ckr_desk_turn.specs.declared.reply.Chkpt.TheVariants.{Suppressed}
 use Rattle.ckr_desk_turn.specs.declared.reply.Reply.{Reply}
@@ -114,25 +113,13 @@ HasGoneBehind told content (Tell reply event) old new = HasGoneOn event None old
 HasGoneBehind told content (Wait job code) old new = HasWaited job code old.jobs new.jobs × (new.store ≡ old.store)
 HasGoneBehind told content _ old new = new ≡ old
 
--- the event of a plan, if it has one, is plain
-abbrev pub IsPlainPlan : Plan → Type 0
-IsPlainPlan (Rest reply) = Unit {0}
-IsPlainPlan (Tell reply event) = is_forward_event event ≡ true
-IsPlainPlan (Work job) = Unit {0}
-IsPlainPlan (Pass job reply) = Unit {0}
-IsPlainPlan (Take job) = Unit {0}
-IsPlainPlan (Ask inquiry) = Unit {0}
-IsPlainPlan (Wait job code) = Unit {0}
-
--- a plan that tells a forward event or none, and asks nobody
-abbrev pub IsPlainTold : Plan → Type 0
-IsPlainTold (Rest reply) = Unit {0}
-IsPlainTold (Tell reply event) = is_forward_event event ≡ true
-IsPlainTold (Work job) = ⊥
-IsPlainTold (Pass job reply) = ⊥
-IsPlainTold (Take job) = ⊥
-IsPlainTold (Ask inquiry) = ⊥
-IsPlainTold (Wait job code) = Unit {0}
+-- a plan that tells an event or none, and asks nobody
+abbrev pub IsSettledPlan : Plan → Type 0
+IsSettledPlan (Work job) = ⊥
+IsSettledPlan (Pass job reply) = ⊥
+IsSettledPlan (Take job) = ⊥
+IsSettledPlan (Ask inquiry) = ⊥
+IsSettledPlan _ = Unit {0}
 
 -- why what a turn comes to wasn't done
 abbrev pub NotTold : {D : Type 0} → (D → ℕ) → Event → DeskView D → DeskView D → DeskError → Type 0

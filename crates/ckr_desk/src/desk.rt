@@ -1,18 +1,17 @@
 //! The jobs in memory with their disk, and the operator.
-ghost use Rattle.std.specs.Prelude.{◌≡◌, ◌≤◌, ◌++◌, ◌∷◌, [], IfErr, IfSome, IsTrue, OnOk, Err, None, Some, length, map, true};
+ghost use Rattle.std.specs.Prelude.{◌≡◌, ◌≤◌, ◌++◌, ◌∷◌, [], IfErr, IfSome, OnOk, Err, None, Some, length, map, true};
 ghost use Rattle.std.specs.Option.{option_map};
 ghost use Rattle.std.specs.Rc.{rc_value};
 ghost use Rattle.ckr_events.specs.Event.{IsCounted, spelling};
 ghost use Rattle.ckr_desk_memory.specs.Invariant.{IsAnyAccepted};
 ghost use Rattle.ckr_desk_memory.specs.Rewrite.{HasRecordPlace};
 ghost use Rattle.ckr_desk_memory.specs.OwnSets.{CommitsItsOwn};
-ghost use Rattle.ckr_desk_memory.specs.OwnSteps.{LeavesLeft};
+ghost use Rattle.ckr_desk_memory.specs.OwnSteps.{KnowsItsPoint, LeavesLeft};
 ghost use Rattle.ckr_outside.specs.Disk.{EachSince, Only};
 ghost use Rattle.ckr_points.specs.Rows.{holding_of};
 ghost use Rattle.ckr_desk_refines.specs.Moves.{HasSameRecords};
 ghost use Rattle.ckr_desk_store.specs.OpenImages.{event_records};
 ghost use Rattle.ckr_points_tables.specs.Invariant.{MaySubmit};
-ghost use Rattle.ckr_desk_memory.specs.ForwardEvents.{is_forward_event};
 ghost use Rattle.ckr_points_tables.specs.View.{line_of, seen_by};
 ghost use Rattle.ckr_desk.specs.Calls.{HasGoneOn, IsLeftBy, NotEntered, NotKept, may_follow};
 ghost use Rattle.ckr_desk.specs.Preparation.{IsReady};
@@ -104,7 +103,7 @@ impl<D: Disk, O: Operator> Desk<D, O> {
         deck: Option<Rc<Job>>,
         ready: Ready,
     ) -> Result<(), DeskError>
-        requires plain { IsTrue (is_forward_event event.now) }
+        requires knows { KnowsItsPoint event.now self.old.jobs.tables.desk self.old.jobs.points }
         requires deck { MaySubmit event.now (option_map rc_value deck) }
         requires accepted { IsAnyAccepted event.now (option_map rc_value deck) }
         requires follows { may_follow event.now (option_map rc_value deck) self.old ≡ true }
@@ -134,14 +133,14 @@ impl<D: Disk, O: Operator> Desk<D, O> {
         Ok(())
     }
 
-    /// Keeps a forward event that follows, with the memory that it needs. A deck is given exactly where the event is Submitted and its cards
+    /// Keeps an event that follows, with the memory that it needs. A deck is given exactly where the event is Submitted and its cards
     /// are a deck, and it is that deck, accepted and of a form that the desk runs.
     ///
     /// `NoMemory`, also where a count of rewrites is at its end; `BookFull` where the event needs more than the room of the book: the jobs
     /// and the disk are the same then. `DiskFault`: only where the disk's faults rose in this call; then the desk has stopped. `Stopped`:
     /// exactly where it had stopped before (this project's profile).
     pub(crate) fn tell(&mut self, event: &Event, deck: Option<Job>) -> Result<(), DeskError>
-        requires plain { IsTrue (is_forward_event event.now) }
+        requires knows { KnowsItsPoint event.now self.old.jobs.tables.desk self.old.jobs.points }
         requires follows { may_follow event.now deck self.old ≡ true }
         requires commits { CommitsItsOwn event.now self.old.jobs.tables.desk self.old.jobs.running }
         requires leaves { LeavesLeft event.now self.old.jobs.failed }

@@ -25,6 +25,7 @@ ghost use Rattle.ckr_volumes.specs.declared.layout.Layout.{Layout as LayoutOfDis
 ghost use Rattle.ckr_desk.specs.Entries.{ArePlaced, ArePointsRead, EntriesCause, EntryCause, IsFoundAt, IsFoundOf, bad_entry, is_dd_present, point_read, refused_at, run_refusal};
 
 use crate::OpenError;
+use crate::entry_reads::{ends_within, kind_number, program_of, put, records_of};
 use ckr_base::{DsName, NoMemory};
 use ckr_desk_memory::{Jobs, StepPoint};
 use ckr_entry::{EntryError, Mark, Point, State, decode_entry};
@@ -42,28 +43,6 @@ fn is_holder(state: RunState) -> bool
     ensures { result ≡ is_holder state }
 {
     matches!(state, RunState::On | RunState::Held | RunState::Released)
-}
-
-/// Whether an entry, in records of 256 bytes, ends at this place of its data set or before.
-fn ends_within(kept: &Kept, end: u32) -> bool
-    ensures { result ≡ ends_within end kept.now }
-{
-    u64::from(kept.place) + u64::from(kept.bytes).div_ceil(256) <= u64::from(end)
-}
-
-/// How many records of 256 bytes so many bytes take.
-fn records_of(bytes: u32) -> u32
-    ensures { result ≡ records_of bytes }
-{
-    bytes.div_ceil(256)
-}
-
-/// Puts the bytes of a record behind the others.
-fn put(found: &mut Vec<u8>, bytes: &[u8]) -> Result<(), NoMemory>
-    ensures { OnOk result (found.new.items ≡ found.old.items ++ bytes.now) }
-{
-    found.extend_from_slice(bytes)?;
-    Ok(())
 }
 
 /// The bytes of an entry that has its places in a data set.
@@ -134,31 +113,6 @@ fn are_present(marks: &[Mark], root: u32, own: &OwnStep<'_>) -> bool
         .as_slice()
         .iter()
         .all(|dd| is_dd_present(marks, root, own, dd))
-}
-
-/// The program of a state.
-fn program_of(state: &State) -> Kind
-    ensures { result ≡ program_of state.now }
-{
-    match state {
-        State::Plain(state) => state.kind,
-        State::Matched(state) => state.kind,
-    }
-}
-
-/// Programs by number, to be compared.
-fn kind_number(kind: Kind) -> u8
-    ensures { result ≡ kind_number kind }
-{
-    match kind {
-        Kind::Copy => 1,
-        Kind::Select => 2,
-        Kind::Merge => 3,
-        Kind::Master => 4,
-        Kind::Update => 5,
-        Kind::Print => 6,
-        Kind::Br14 => 7,
-    }
 }
 
 /// Whether a point is one of this step of a run of this root.

@@ -2,11 +2,14 @@
 #![tactic(auto)]
 
 mod checkpoint;
+mod continuation;
 mod data_set;
 mod desk;
 mod entries;
+mod entry_reads;
 mod error;
 mod event_bytes;
+mod kept_point;
 mod opening;
 mod plan;
 mod preparation;

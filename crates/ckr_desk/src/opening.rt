@@ -74,10 +74,11 @@ fn replay_one<D: Disk>(
 ) -> Result<bool, OpenError>
     requires header { IsHeader layout.now (D.size disk.old) }
     requires place { found.old.place ≤ layout.now.book }
+    requires jobs { AreJobs layout.now found.old.jobs }
     ensures goes { IfOk result (GoneOn D.told layout.now (part 512 layout.now.book (D.content disk.old)) found.old.jobs.tables.desk found.old.place found.new.jobs.tables.desk found.new.place) }
     ensures last { D.told → IfOk result (LastGone (part 512 layout.now.book (D.content disk.old)) found.old.place found.old.last found.new.place found.new.last) }
-    ensures jobs { OnOk result (AreJobs layout.now found.old.jobs → AreJobs layout.now found.new.jobs) }
-    ensures holders { OnOk result (AreJobs layout.now found.old.jobs → AreHolders found.old.jobs.tables.desk → AreHolders found.new.jobs.tables.desk) }
+    ensures jobs { OnOk result (AreJobs layout.now found.new.jobs) }
+    ensures holders { OnOk result (AreHolders found.old.jobs.tables.desk → AreHolders found.new.jobs.tables.desk) }
     ensures numbered { OnOk result (AreNumbered 1 found.old.jobs.tables.desk.runs → AreNumbered 1 found.new.jobs.tables.desk.runs) }
     ensures running { OnOk result (found.new.jobs.running ≡ found.old.jobs.running) }
     ensures only_reads { OnlyReads D.content D.may_leave D.moment D.left_since disk.old disk.new }

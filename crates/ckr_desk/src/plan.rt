@@ -13,7 +13,8 @@ ghost use Rattle.ckr_desk.specs.Preparation.{IsReadyFor};
 ghost use Rattle.ckr_desk.specs.NoChange.{HasHalted, StaysBy};
 ghost use Rattle.ckr_desk.specs.Soundness.{state_of};
 ghost use Rattle.ckr_desk.specs.Turn.{AnswerStands, asks};
-ghost use Rattle.ckr_desk.specs.Units.{HasGoneBehind, HasTurned, IsLeftBehind, IsPlainPlan, IsPlainTold, IsPlanned, NotBehind};
+ghost use Rattle.ckr_desk.specs.Continuation.{PlanKnows, PlanStandsAt};
+ghost use Rattle.ckr_desk.specs.Units.{HasGoneBehind, HasTurned, IsLeftBehind, IsPlanned, IsSettledPlan, NotBehind};
 ghost use Rattle.ckr_desk_turn.specs.declared.reply.Turn.{Turn as TurnOf};
 
 use crate::preparation::Ready;
@@ -28,7 +29,8 @@ impl<D: Disk, O: Operator> Desk<D, O> {
     pub(crate) fn go_on(&mut self, plan: Plan, ready: Option<Ready>) -> Result<Reply, DeskError>
         requires is_open { self.old.store.fault ≡ None }
         requires spelled { IsSpelledPlan plan }
-        requires plain { IsPlainTold plan }
+        requires settled { IsSettledPlan plan }
+        requires knows { PlanKnows self.old.jobs.tables.desk self.old.jobs.points plan }
         requires follows { PlanFollows self.old.store.layout self.old.jobs.tables.desk plan }
         requires commits { PlanCommits self.old.jobs.tables.desk self.old.jobs.running plan }
         requires leaves { PlanLeaves self.old.jobs.failed plan }
@@ -75,16 +77,17 @@ impl<D: Disk, O: Operator> Desk<D, O> {
         self.jobs.pass(run);
     }
 
-    /// Carries out what a turn comes to. What it tells is made ready before anything is written, and what it asks the operator is answered before.
+    /// Carries out what a turn comes to. What it tells is made ready before anything is written, and what it asks the operator is answered before. The
+    /// point is known at which a run goes on that is selected to continue an earlier one.
     pub(crate) fn carry_out(&mut self, plan: Plan) -> Result<Reply, DeskError>
         requires is_open { self.old.store.fault ≡ None }
         requires spelled { IsSpelledPlan plan }
-        requires plain { IsPlainPlan plan }
+        requires knows { PlanKnows self.old.jobs.tables.desk self.old.jobs.points plan }
         requires follows { PlanFollows self.old.store.layout self.old.jobs.tables.desk plan }
         requires commits { PlanCommits self.old.jobs.tables.desk self.old.jobs.running plan }
         requires leaves { PlanLeaves self.old.jobs.failed plan }
         requires due { HasDue self.old.jobs plan }
-        ensures turned { (turn : TurnOf) → IsPlanned D.told D.content D.may_leave self.old turn plan
+        ensures turned { (turn : TurnOf) → IsPlanned D.told D.content D.may_leave self.old turn plan → PlanStandsAt (state_of D.content self.old).desk self.old.jobs.points plan
             → HasTurned D.told D.content D.may_leave D.moment D.left_since D.size turn (restart_answer self.old.operator) self.old self.new result }
         ensures answered { (turn : TurnOf) → IsPlanned D.told D.content D.may_leave self.old turn plan
             → AnswerStands (asks (state_of D.content self.old) turn (restart_answer self.old.operator)) self.old.operator self.new.operator result }

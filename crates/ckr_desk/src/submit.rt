@@ -7,7 +7,7 @@ ghost use Rattle.ckr_desk_refines.specs.Moves.{HasSameRecords};
 ghost use Rattle.ckr_desk_turn.specs.Model.Cards.{kept_of_stored};
 ghost use Rattle.ckr_points_tables.specs.Invariant.{IsAnySubmittable};
 ghost use Rattle.ckr_desk_store.specs.OpenImages.{event_records};
-ghost use Rattle.ckr_desk_turn.specs.Model.Form.{submission_of};
+ghost use Rattle.ckr_desk_turn.specs.Model.Submissions.{submission_of};
 ghost use Rattle.ckr_desk_turn.specs.Model.Submission.TheVariants as Decks;
 ghost use Rattle.ckr_desk.specs.CallOutcomes.{HasComeTo, KeepsDesk};
 ghost use Rattle.ckr_desk.specs.Requests.{TellsFull, behind_call, came_by, event_in, spelled};

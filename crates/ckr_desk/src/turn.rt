@@ -96,7 +96,8 @@ impl<D: Disk, O: Operator> Desk<D, O> {
         ensures stays { IfErr result (StaysBy D.content D.may_leave D.faults self.old self.new) }
     {
         let _layout = self.store.layout();
-        let plan = self.jobs.plan(self.store.layout(), turn)?;
+        let planned = self.jobs.plan(self.store.layout(), turn)?;
+        let plan = self.judged(planned)?;
         self.carry_out(plan)
     }
 }

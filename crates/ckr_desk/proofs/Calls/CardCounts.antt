@@ -17,7 +17,7 @@ use Rattle.ckr_jcl_decks.specs.Parts.Fault.{Fault}
 use Rattle.ckr_desk_memory.specs.Invariant.{IsAcceptedRow}
 use Rattle.ckr_points.specs.Tables.{queued_run}
 use Rattle.ckr_desk_turn.proofs.AdmittedSteps.{own-step}
-use Rattle.ckr_desk_turn.specs.Model.Form.{is_run, submission_by, submission_of}
+use Rattle.ckr_desk_turn.specs.Model.Submissions.{submission_by, submission_of}
 use Rattle.ckr_desk_turn.specs.Model.Submission.{Submission}
 use Rattle.ckr_desk_turn.specs.Model.Submission.TheVariants.{Accepted, Refused}
 use Rattle.ckr_jcl_decks.proofs.Refusals.{job_law}
@@ -84,22 +84,18 @@ few_cards bytes job accepted =
 
 -- ---- what is accepted
 
-by_deck : (deck : Result Job Fault) (job : Job) → submission_by deck ≡ Accepted job → (deck ≡ Ok job) × (is_run job ≡ true)
+by_deck : (deck : Result Job Fault) (job : Job) → submission_by deck ≡ Accepted job → deck ≡ Ok job
 by_deck (Err fault) job e = absurd (subst (λ (s : Submission). elim s as (λ _. Type 0) [ Accepted _ ↦ ⊥ | Refused _ _ ↦ Unit {0} ]) e tt)
-by_deck (Ok its) job e = by_test (is_run its) refl e
-  where
-    by_test : (run : Bool) → is_run its ≡ run → cond run (Accepted its) (Refused 0 1) ≡ Accepted job → ((let deck : Result Job Fault = Ok its in deck) ≡ Ok job) × (is_run job ≡ true)
-    by_test true is e = let same : its ≡ job = ap (λ (s : Submission). elim s as (λ _. Job) [ Accepted j ↦ j | Refused _ _ ↦ its ]) e in (ap Ok same, ap is_run (sym same) ∙ is)
-    by_test false is e = absurd (subst (λ (s : Submission). elim s as (λ _. Type 0) [ Accepted _ ↦ ⊥ | Refused _ _ ↦ Unit {0} ]) e tt)
+by_deck (Ok its) job e = ap Ok (let same : its ≡ job = ap (λ (s : Submission). elim s as (λ _. Job) [ Accepted j ↦ j | Refused _ _ ↦ its ]) e in same)
 
--- a deck that the desk runs was accepted
-pub accepted-deck : (cards : List ℕ) (job : Job) → submission_of cards ≡ Accepted job → (stored_deck cards ≡ Ok job) × (is_run job ≡ true)
+-- the deck of a job was accepted
+pub accepted-deck : (cards : List ℕ) (job : Job) → submission_of cards ≡ Accepted job → stored_deck cards ≡ Ok job
 unfolding submission_of
 accepted-deck cards job e = by_deck (stored_deck cards) job e
 
 pub few-accepted : (cards : List ℕ) (job : Job) → submission_of cards ≡ Accepted job → length cards / 81 ≤ 100000
-few-accepted cards job e = few_cards cards job (accepted-deck cards job e).0
+few-accepted cards job e = few_cards cards job (accepted-deck cards job e)
 
 -- its row is such as the desk runs
 pub accepted-row : (cards : List ℕ) (number : ℕ) (job : Job) → submission_of cards ≡ Accepted job → IsAcceptedRow (queued_run number job)
-accepted-row cards number job e = let its = accepted-deck cards job e in record { cards = cards; accepted = its.0; is_run = its.1; steps = own-step cards number job its.0; plain = λ none. refl; first = λ none. refl }
+accepted-row cards number job e = let its = accepted-deck cards job e in record { cards = cards; accepted = its; steps = own-step cards number job its; plain = λ none. refl; first = λ none. refl }

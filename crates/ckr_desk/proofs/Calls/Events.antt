@@ -5,12 +5,13 @@ use Rattle.ckr_base.proofs.Bools.{and-first}
 use Rattle.ckr_base.proofs.Numbers.{nat_le-true}
 use Rattle.ckr_base.proofs.Options.{some-not-none}
 use Rattle.ckr_book.specs.Book.{IsBeforeOrAfter, room_of}
+use Rattle.ckr_base.proofs.Numbers.{nat_le-from}
 use Rattle.ckr_events.specs.declared.event.Event.{Event}
 use Rattle.ckr_events.specs.declared.event.Event.TheVariants.{Submitted, Purged, Released}
 use Rattle.ckr_events.specs.Event.{IsEvent, spelling}
 use Rattle.ckr_jcl.specs.declared.deck.Job.{Job}
 use Rattle.ckr_jcl_decks.specs.Deck.{stored_deck}
-use Rattle.ckr_desk_memory.specs.Replay.{deck_of, goes_on, is_run_by}
+use Rattle.ckr_desk_memory.specs.Replay.{deck_of, goes_on, has_few_digits}
 use Rattle.ckr_desk_turn.proofs.NextEvents.BetweenSteps.{purged_comes, released_comes}
 use Rattle.ckr_desk_turn.proofs.Select.{purged-keeps, released-keeps, stored-comes, stored-keeps}
 use Rattle.ckr_desk_turn.specs.Invariant.{IsDesk}
@@ -28,9 +29,7 @@ use Rattle.ckr_desk_refines.specs.Standing.{StandsForDesk}
 use Rattle.ckr_desk_store.specs.OpenImages.{Opens, event_records}
 use Rattle.ckr_desk_turn.proofs.KeptCards.{kept_accepted}
 use Rattle.ckr_desk_turn.specs.Model.Cards.{kept_of_stored}
-use Rattle.ckr_desk_turn.specs.Model.Form.{is_run}
 use Rattle.ckr_points_tables.specs.Invariant.{is_submittable}
-use Rattle.ckr_desk_memory.specs.ForwardEvents.{is_forward_event}
 use Rattle.ckr_desk_refines.proofs.Events.Turns.{purged-committed, purged-stands, release-stands, released-committed, submitted-committed, submitted-stands}
 use Rattle.ckr_desk_turn.specs.Desk.{DeskModel, behind}
 use Rattle.ckr_volumes.specs.declared.layout.Layout.{Layout}
@@ -59,8 +58,7 @@ module _ {D : Type 0} (told : Type 0) (content : D → List ℕ) (may_leave : D 
   pub record IsCalled (event : Event) (deck : Option Job) : Type 0 where
     pub is_event : IsEvent event
     pub decked : deck_of event ≡ deck
-    pub runs : is_run_by event deck ≡ true
-    pub plain : is_forward_event event ≡ true
+    pub digits : has_few_digits event ≡ true
     pub quiet : (tables : _) → rewrite_of tables event ≡ None
     pub takes : (now : Office) (image : List ℕ) → HasNewOne layout now event image
     pub next : IsNext layout desk.office (event, deck)
@@ -74,7 +72,7 @@ module _ {D : Type 0} (told : Type 0) (content : D → List ℕ) (may_leave : D 
     coming might = record {
       is_event = its.is_event;
       goes = subst (λ d. goes_on layout old.jobs.tables.desk event d ≡ true) (sym its.decked)
-          (and_from (is_forward_event event) _ its.plain (and_from (is_run_by event deck) _ its.runs might));
+          (and_from (has_few_digits event) _ its.digits might);
       next = subst (λ d. IsNext layout desk.office (event, d)) (sym its.decked) its.next;
       office = ap (λ d. office_after (event, d) (office_on layout (content old.store.disk))) (sym its.decked);
       layout_is = refl;
@@ -136,17 +134,16 @@ module _ {D : Type 0} (told : Type 0) (content : D → List ℕ) (may_leave : D 
 
   -- ---- a deck that is submitted
 
-  pub called-deck : (cards : List ℕ) (deck : Job) → 81 ≤ length cards → stored_deck cards ≡ Ok deck → is_run deck ≡ true → is_submittable (suc (length old.jobs.tables.desk.runs)) deck ≡ true
+  pub called-deck : (cards : List ℕ) (deck : Job) → 81 ≤ length cards → stored_deck cards ≡ Ok deck → is_submittable (suc (length old.jobs.tables.desk.runs)) deck ≡ true
       → IsEvent (Submitted (suc (length old.jobs.tables.desk.runs)) (kept_of_stored cards))
       → IsCalled (Submitted (suc (length old.jobs.tables.desk.runs)) (kept_of_stored cards)) (Some deck)
-  called-deck cards deck some accepted runs fit is_event =
+  called-deck cards deck some accepted fit is_event =
       let number : suc (length old.jobs.tables.desk.runs) ≡ suc (length desk.office.tables.runs) = ap (λ t. suc (length t.runs)) trusted.stands.tables in
       let few : suc (length desk.office.tables.runs) ≤ 9999999 = subst (λ n. n ≤ 9999999) number (submittable-small (suc (length old.jobs.tables.desk.runs)) deck fit) in
       record {
         is_event = is_event;
         decked = kept_accepted cards deck some accepted;
-        runs = and_from (is_run deck) _ runs fit;
-        plain = refl;
+        digits = nat_le-from (suc (length old.jobs.tables.desk.runs)) 9999999 (submittable-small (suc (length old.jobs.tables.desk.runs)) deck fit);
         quiet = λ tables. refl;
         takes = λ now image. tt;
         next = subst (λ n. IsNext layout desk.office (Submitted n (kept_of_stored cards), Some deck)) (sym number) (stored-comes desk cards deck few some accepted);
@@ -169,8 +166,7 @@ module _ {D : Type 0} (told : Type 0) (content : D → List ℕ) (may_leave : D 
       record {
         is_event = is_event;
         decked = refl;
-        runs = refl;
-        plain = refl;
+        digits = refl;
         quiet = λ tables. refl;
         takes = λ now image. tt;
         next = record { may = purged_comes desk job row there queued; carried = refl };
@@ -187,8 +183,7 @@ module _ {D : Type 0} (told : Type 0) (content : D → List ℕ) (may_leave : D 
       record {
         is_event = is_event;
         decked = refl;
-        runs = refl;
-        plain = refl;
+        digits = refl;
         quiet = λ tables. refl;
         takes = λ now image. tt;
         next = record { may = released_comes desk job row there held; carried = refl };

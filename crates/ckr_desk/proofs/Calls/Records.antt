@@ -50,7 +50,7 @@ module _ {D : Type 0} (told : Type 0) (content : D → List ℕ) (may_leave : D 
   pub read-before : (jobs : JobsView) (operator : Option Answering) (old new : StoreView D) → new ≡ record old { disk = new.disk } → OnlyReads content may_leave moment left_since old.disk new.disk
       → IsAsBefore told content may_leave (record { store = old; jobs = jobs; operator = operator }) (record { store = new; jobs = jobs; operator = operator })
   read-before jobs operator old new kept reads = record {
-    jobs = record { tables = refl; running = refl; failed = refl; points = refl };
+    jobs = record { tables = refl; running = refl; failed = refl; points = λ run off. refl };
     layout = ap (λ (s : StoreView D). s.layout) kept;
     room = ap (λ (s : StoreView D). room_of s.book) kept;
     reads = reads.same;

@@ -18,7 +18,7 @@ use Rattle.ckr_desk_store.specs.OpenImages.{event_records}
 use Rattle.ckr_desk_store.specs.State.{IsSound, StoreView}
 use Rattle.ckr_desk_turn.proofs.KeptCards.{kept_long, submitted_spelled}
 use Rattle.ckr_desk_turn.specs.Model.Cards.{kept_of_stored}
-use Rattle.ckr_desk_turn.specs.Model.Form.{submission_of}
+use Rattle.ckr_desk_turn.specs.Model.Submissions.{submission_of}
 use Rattle.ckr_desk_turn.specs.Model.Submission.{Submission}
 use Rattle.ckr_desk_turn.specs.Model.Submission.TheVariants.{Accepted, Refused}
 use Rattle.ckr_points_tables.specs.Invariant.{is_submittable}
@@ -213,7 +213,7 @@ module _ {D : Type 0} (told : Type 0) (content : D → List ℕ) (may_leave : D 
         let long = kept_long cards in
         let number = submittable-small (suc (length old.jobs.tables.desk.runs)) deck fits in
         let told_so = submitted_spelled (suc (length old.jobs.tables.desk.runs)) (kept_of_stored cards) (length cards / 81) (omega (arith, number)) (omega (arith, some)) long (omega (arith, few)) in
-        called-deck told content may_leave size old trusted cards deck some its.0 its.1 fits told_so.event
+        called-deck told content may_leave size old trusted cards deck some its fits told_so.event
 
     submitted : (submission : Submission) → submission_of cards ≡ submission → IsCalledSo (call_by old.jobs.tables.desk cards submission)
     unfolding number_for

@@ -94,6 +94,13 @@ module _ {D : Type 0} (told : Type 0) (content : D → List ℕ) (may_leave : D 
   pub opens-so : (old : DeskView D) → IsSound content may_leave size old.store → old.store.fault ≡ None → (image : List ℕ) → may_leave old.store.disk image → OpensSame content size old image
   opens-so old sound is_open image now = opens_now told content may_leave moment left_since size old.store sound is_open image now
 
+  -- the disk was only read
+  pub read-left : (old : DeskView D) (new : D) → IsSound content may_leave size old.store → old.store.fault ≡ None → OnlyReads content may_leave moment left_since old.store.disk new
+      → EachSince moment left_since old.store.disk new (λ image. OpensSame content size old image × may_leave old.store.disk image)
+  read-left old new sound is_open reads =
+      in_other_words moment left_since old.store.disk new (may_leave old.store.disk) (λ image. OpensSame content size old image × may_leave old.store.disk image) reads.since
+      (λ image may. (opens-so old sound is_open image may, may))
+
   pub now-left : (old : DeskView D) → IsSound content may_leave size old.store → old.store.fault ≡ None → ((image : List ℕ) → left_since old.store.disk (moment old.store.disk) image → may_leave old.store.disk image)
       → EachSince moment left_since old.store.disk old.store.disk (λ image. OpensSame content size old image × may_leave old.store.disk image)
   now-left old sound is_open only =

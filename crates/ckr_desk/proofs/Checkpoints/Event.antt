@@ -10,7 +10,8 @@ use Rattle.ckr_events.specs.Event.{spelling}
 use Rattle.ckr_desk_memory.specs.declared.checkpoint.Checkpoint.{Checkpoint}
 use Rattle.ckr_desk_memory.specs.EventChanges.{points_behind}
 use Rattle.ckr_desk_memory.specs.Model.RewriteCounts.{may_count}
-use Rattle.ckr_desk_memory.specs.Replay.{deck_of, goes_on, is_run_by}
+use Rattle.ckr_desk_memory.specs.Replay.{deck_of, goes_on, has_few_digits}
+use Rattle.ckr_desk.proofs.Turns.Events.{small-digits}
 use Rattle.ckr_desk_memory.specs.RunningSteps.{GoesOn}
 use Rattle.ckr_desk_memory.specs.View.{JobsView, RunningStepView, jobs_of}
 use Rattle.ckr_jcl.specs.declared.deck.Job.{Job}
@@ -21,7 +22,6 @@ use Rattle.ckr_points.specs.Follows.{follows}
 use Rattle.ckr_points.specs.Office.{Office, office_after}
 use Rattle.ckr_points.specs.Restart.{after_event}
 use Rattle.ckr_points.specs.Rows.{TablesModel}
-use Rattle.ckr_desk_memory.specs.ForwardEvents.{is_forward_event}
 use Rattle.ckr_volumes.specs.declared.layout.Layout.{Layout}
 use Rattle.ckr_volumes.specs.Header.{header_of}
 use Rattle.ckr_desk_refines.proofs.Checkpoints.Turn.{event-told, fits-told, known, pair, taken-by, taken-kept, unclosed}
@@ -55,7 +55,6 @@ use Rattle.ckr_desk.proofs.Images.Entries.{laid-then, same-has, within-then}
 use Rattle.ckr_desk.proofs.Images.NextEvent.{deck-none}
 use Rattle.ckr_desk.proofs.Images.Soundness.{again-so, kept-before, kept-behind}
 use Rattle.ckr_desk.proofs.Trust.Events.{IsBehind, IsComing, desk-behind, trusted-behind}
-use Rattle.ckr_desk.proofs.Turns.Events.{small-runs}
 use Rattle.ckr_desk.specs.Calls.{HasGoneOn, IsLeftBy, may_keep}
 use Rattle.ckr_desk.specs.Checkpoint.{HasWrittenEntry, IsLeftByEntry, IsMade, IsReplyWith}
 use Rattle.ckr_desk.specs.Requests.{has_room, room_behind, spelled}
@@ -90,9 +89,6 @@ module _ {D : Type 0} (told : Type 0) (content : D → List ℕ) (may_leave : D 
 
   told-so : (taken_of run desk).event ≡ Some event
   told-so = event-is told content may_leave moment left_since size old trusted turn its run planned made is
-
-  plain : is_forward_event event ≡ true
-  plain = ap is_forward_event is.of.event
 
   none-decked : deck_of event ≡ None
   none-decked = deck-none event is.spelled.small
@@ -131,7 +127,7 @@ module _ {D : Type 0} (told : Type 0) (content : D → List ℕ) (may_leave : D 
   coming might = record {
     is_event = is.spelled.event;
     goes = subst (λ (d : Option Job). goes_on layout old.jobs.tables.desk event d ≡ true) (sym none-decked)
-        (and_from (is_forward_event event) _ plain (and_from (is_run_by event None) _ (small-runs event is.spelled.small) might));
+        (and_from (has_few_digits event) _ (small-digits event is.spelled.small) might);
     next = subst (λ (d : Option Job). IsNext layout office (event, d)) (sym none-decked) comes;
     office = office-then ∙ ap (λ (d : Option Job). office_after (event, d) office) (sym none-decked);
     layout_is = layout-then;

@@ -17,7 +17,7 @@ use Rattle.ckr_points.specs.Restart.{kept_at}
 use Rattle.ckr_points.specs.Rows.{RunRow, TableSet, no_tables}
 use Rattle.ckr_desk_store.specs.OpenImages.{event_records}
 use Rattle.ckr_desk_turn.proofs.Checkpoints.Steps.{check-length as step-records, id-ranged}
-use Rattle.ckr_desk_turn.proofs.Runs.Lists.{events-checked, run-decks}
+use Rattle.ckr_desk_turn.proofs.Runs.Lists.{events-checked}
 use Rattle.ckr_desk_turn.specs.Checkpoints.{check_set, checkpoint_fits, entry_end, fits_in, is_in_range, next_entry, next_id}
 use Rattle.ckr_desk_turn.specs.declared.plan.Plan.TheVariants.{Take}
 use Rattle.ckr_desk_turn.specs.declared.reply.Turn.{Turn}
@@ -25,7 +25,7 @@ use Rattle.ckr_desk_turn.specs.Invariant.{IsTurnOf}
 use Rattle.ckr_desk_turn.specs.Plans.{plan_of}
 use Rattle.ckr_desk_turn.specs.Units.{StepProgress}
 use Rattle.ckr_desk.proofs.Checkpoints.Steps.{its_pair}
-use Rattle.ckr_desk.proofs.Openings.RunRecords.{run-records}
+use Rattle.ckr_desk.proofs.Openings.DeckRecords.{deck-records}
 use Rattle.ckr_desk.specs.Soundness.{IsTrusted, events_in, office_on, state_of}
 use Rattle.ckr_desk.specs.State.{DeskView}
 
@@ -65,7 +65,7 @@ module _ {D : Type 0} (told : Type 0) (content : D → List ℕ) (may_leave : D 
   records-so =
       let before : List (List ℕ) = event_records old.store.layout (content old.store.disk) in
       step-records (state_of content old).desk (its_pair told content may_leave size old trusted turn its run planned on found).step (its_pair told content may_leave size old trusted turn its run planned on found).going trusted.stands.is_desk
-      (events-checked old.store.layout (events_in before) trusted.events (run-decks (events_in before) (run-records old.store.layout no_tables 0 before old.jobs.tables.desk trusted.opens)))
+      (events-checked old.store.layout (events_in before) trusted.events (deck-records old.store.layout no_tables 0 before old.jobs.tables.desk trusted.opens))
 
   passed-so : nat_lt (length row.passed) (2 ^ 16) ≡ true
   passed-so =

@@ -17,9 +17,9 @@ use Rattle.ckr_desk_refines.specs.Entries.{AreWithin, HasEntries, HasNewEntry, O
 use Rattle.ckr_desk_refines.specs.EntryRefusal.{AreInEffect, IsInEffect, effect_fault, entry_refusal, first_fault, run_fault}
 use Rattle.ckr_desk_refines.specs.Moves.{HasSameRecords}
 use Rattle.ckr_desk_store.specs.OpenImages.{event_records}
-use Rattle.ckr_desk_turn.proofs.Runs.Lists.{events-kept, run-decks}
+use Rattle.ckr_desk_turn.proofs.Runs.Lists.{events-kept}
 use Rattle.ckr_desk_turn.specs.Desk.{DeskModel}
-use Rattle.ckr_desk_turn.specs.RunEvents.{AreDeckEvents, AreRunEvents}
+use Rattle.ckr_desk_turn.specs.DeckEvents.{AreDeckEvents}
 use Rattle.ckr_jcl.specs.declared.deck.Job.{Job}
 use Rattle.ckr_library.specs.Catalog.{ends_within, records_of}
 use Rattle.ckr_library.specs.NameMaps.{entry_at, same_name}
@@ -35,7 +35,7 @@ use Rattle.ckr_points_invariant.specs.Invariant.{IsAgreed}
 use Rattle.ckr_volumes.specs.Layouts.{StandsIn}
 use Rattle.ckr_volumes.specs.declared.layout.Layout.{Layout}
 use Rattle.ckr_desk.proofs.Images.NextEvent.{events-more, opens-grown, replayed-so, sound-grown}
-use Rattle.ckr_desk.proofs.Openings.RunRecords.{run-records}
+use Rattle.ckr_desk.proofs.Openings.DeckRecords.{deck-records}
 use Rattle.ckr_desk.proofs.Trust.Events.{IsComing}
 use Rattle.ckr_desk.specs.Entries.{ArePlaced, bad_entry, effect_refusal, has_places, is_placed, run_refusal}
 use Rattle.ckr_desk.specs.Opening.{behind_records}
@@ -45,7 +45,7 @@ use Rattle.ckr_desk.specs.State.{DeskView}
 -- ---- what is refused
 
 -- an entry that ends within the length of its data set has its places
-ends-more : (length space : ℕ) (kept : Kept) → length ≤ space → IsTrue (ends_within length kept) → ends_within space kept ≡ true
+pub ends-more : (length space : ℕ) (kept : Kept) → length ≤ space → IsTrue (ends_within length kept) → ends_within space kept ≡ true
 ends-more length space kept fits ends = let end : kept.place + records_of kept.bytes ≤ length = nat_le-true _ _ ends in nat_le-from (kept.place + records_of kept.bytes) space (omega (arith, fits, end))
 
 effect-placed : (layout : Layout) (office : Office) → AreLaidOut layout office.tables.sets → AreWithin office.tables.sets → (row : RunRow) (effect : EffectPoint) → IsInEffect office row effect → is_placed office.tables effect ≡ true
@@ -88,11 +88,8 @@ tables-behind now _ deck = refl
 -- ---- records that bring about tables
 
 module _ (layout : Layout) (records : List (List ℕ)) (tables : TablesModel) (sound : AreSound layout (events_in records)) (brings : behind_records layout no_tables 0 records ≡ Ok tables) where
-  run : AreRunEvents (events_in records)
-  run = run-records layout no_tables 0 records tables brings
-
   decks : AreDeckEvents (events_in records)
-  decks = run-decks (events_in records) run
+  decks = deck-records layout no_tables 0 records tables brings
 
   kept-within : AreWithin (office (events_in records)).tables.sets × AreInEffect (office (events_in records))
   kept-within = sound-entries layout (events_in records) [] (subst (AreSound layout) (sym (append-nil (events_in records))) sound)

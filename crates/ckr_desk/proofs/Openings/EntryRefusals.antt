@@ -33,7 +33,7 @@ fault-same one other same (Ok entry) = ap (λ (b : Bool). cond {A = Option ℕ} 
 fault-same one other same (Err offset) = refl
 
 -- a name that the library hasn't, the tables haven't
-none-in-tables : (catalog : Catalog) (sets : Named TableSet) (name : Name) → catalog.sets ≡ seen_by holding_of sets → set_of catalog name ≡ None → entry_at sets name ≡ None
+pub none-in-tables : (catalog : Catalog) (sets : Named TableSet) (name : Name) → catalog.sets ≡ seen_by holding_of sets → set_of catalog name ≡ None → entry_at sets name ≡ None
 none-in-tables catalog sets name seen is = by (entry_at sets name) refl
   where
     by : (entry : Option TableSet) → entry_at sets name ≡ entry → entry_at sets name ≡ None

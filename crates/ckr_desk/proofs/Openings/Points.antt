@@ -155,6 +155,9 @@ kind-back Update = refl
 kind-back Print = refl
 kind-back Br14 = refl
 
+pub kind-same : (one other : Kind) → kind_number one ≡ kind_number other → one ≡ other
+kind-same one other same = sym (kind-back one) ∙ ap kind_at same ∙ kind-back other
+
 right-program : (row : RunRow) (owned : OwnedStep) (entry : Entry) → own_step row ≡ Some owned → is_of_run row entry ≡ true → program_of entry.state ≡ owned.step.program
 right-program row owned entry found right =
     let its : is_of_step row.job.root owned (step_in (place_of row)) entry ≡ true =
@@ -164,9 +167,9 @@ right-program row owned entry found right =
     let number : kind_number (program_of entry.state) ≡ kind_number owned.step.program =
     equal-true (kind_number (program_of entry.state)) (kind_number owned.step.program)
     (and-second (entry.owner == owned.owner && entry.step == step_in (place_of row)) same (and-first (entry.owner == owned.owner && entry.step == step_in (place_of row) && same) present its)) in
-    sym (kind-back (program_of entry.state)) ∙ ap kind_at number ∙ kind-back owned.step.program
+    kind-same (program_of entry.state) owned.step.program number
 
-ok-entry : (one other : Entry) → ◌≡◌ {A = Result Entry ℕ} (Ok one) (Ok other) → one ≡ other
+pub ok-entry : (one other : Entry) → ◌≡◌ {A = Result Entry ℕ} (Ok one) (Ok other) → one ≡ other
 ok-entry one other same = cc
 
 -- ---- the points of the runs up to a number

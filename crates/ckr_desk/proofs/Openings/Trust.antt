@@ -9,9 +9,9 @@ use Rattle.ckr_events.specs.declared.event.Event.{Event}
 use Rattle.ckr_desk_memory.specs.EventChanges.{failed_in}
 use Rattle.ckr_desk_memory.specs.View.{RunningStepView}
 use Rattle.ckr_desk_turn.proofs.Opening.{opened-is}
-use Rattle.ckr_desk_turn.proofs.Runs.Lists.{events-kept, events-run, run-decks}
+use Rattle.ckr_desk_turn.proofs.Runs.Lists.{events-kept, events-run}
 use Rattle.ckr_desk_turn.specs.Invariant.{HasRuns}
-use Rattle.ckr_desk_turn.specs.RunEvents.{AreRunEvents}
+use Rattle.ckr_desk_turn.specs.DeckEvents.{AreDeckEvents}
 use Rattle.ckr_desk_refines.proofs.Entries.There.{has-then}
 use Rattle.ckr_desk_refines.specs.Commits.{HasCommitted}
 use Rattle.ckr_desk_refines.proofs.Standing.Openings.{opened-stands}
@@ -41,7 +41,7 @@ use Rattle.ckr_desk.proofs.Openings.LastRecord.{IsDue, again-lacking, committed-
 use Rattle.ckr_desk.proofs.Openings.Answers.{by_its_book}
 use Rattle.ckr_desk.proofs.Openings.Lengths.{HaveLengths, office-lengths}
 use Rattle.ckr_desk.proofs.Openings.Points.{points-read}
-use Rattle.ckr_desk.proofs.Openings.RunRecords.{run-records}
+use Rattle.ckr_desk.proofs.Openings.DeckRecords.{deck-records}
 use Rattle.ckr_desk.specs.Calls.{HasSameJobs}
 use Rattle.ckr_desk.specs.FirstSync.{FromSync}
 use Rattle.ckr_desk.specs.declared.error.OpenError.{OpenError}
@@ -128,16 +128,16 @@ module _ (image : List ℕ) (size : ℕ) (opened : Opened) (sound : Sound size i
   events-so : AreSound opened.layout (events_in (event_records opened.layout image))
   events-so = subst (λ l. AreSound l (events_in (event_records l image))) layout-same sound.events
 
-  run-so : AreRunEvents (events_in (event_records opened.layout image))
-  run-so = run-records opened.layout no_tables 0 (event_records opened.layout image) opened.tables (gives-tables image size opened opens)
+  decks-so : AreDeckEvents (events_in (event_records opened.layout image))
+  decks-so = deck-records opened.layout no_tables 0 (event_records opened.layout image) opened.tables (gives-tables image size opened opens)
 
   kept-so : IsKept opened.layout (office_on opened.layout image)
   unfolding office_on
-  kept-so = events-kept opened.layout (events_in (event_records opened.layout image)) events-so (run-decks (events_in (event_records opened.layout image)) run-so)
+  kept-so = events-kept opened.layout (events_in (event_records opened.layout image)) events-so decks-so
 
   runs-so : HasRuns (office_on opened.layout image)
   unfolding office_on
-  runs-so = events-run opened.layout (events_in (event_records opened.layout image)) events-so (run-decks (events_in (event_records opened.layout image)) run-so)
+  runs-so = events-run opened.layout (events_in (event_records opened.layout image)) events-so decks-so
 
   again-there : HasCommittedAgain opened.layout (office_on opened.layout image) (last_on opened.layout image) image
   again-there = subst (λ l. HasCommittedAgain l (office_on l image) (last_on l image) image) layout-same sound.committed

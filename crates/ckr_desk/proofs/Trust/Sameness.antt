@@ -1,29 +1,53 @@
 -- A desk that is the same to its callers is trusted as before.
-use Rattle.std.proofs.Common.{◌≡◌, ℕ, List, ap, sym, ◌∙◌, subst, Ok, map}
+use Rattle.std.proofs.Common.{◌≡◌, ◌==◌, ℕ, true, false, List, refl, ap, sym, ◌∙◌, subst, Ok, Option, Some, map}
+use Rattle.std.proofs.lemmas.Bool.{false≢true}
+use Rattle.std.specs.Option.{option_map_or}
+use Rattle.ckr_base.proofs.Bools.{and-first}
 use Rattle.ckr_book.specs.Book.{room_of}
+use Rattle.ckr_desk_memory.specs.Invariant.{is_in_step}
 use Rattle.ckr_desk_memory.specs.View.{JobsView, RunningStepView}
 use Rattle.ckr_desk_refines.specs.Commits.{HasCommitted}
 use Rattle.ckr_desk_refines.specs.Entries.{HasEntries}
 use Rattle.ckr_desk_turn.specs.declared.failed_run.FailedRun.{FailedRun}
 use Rattle.ckr_points.specs.Events.{AreSound}
-use Rattle.ckr_points.specs.Rows.{no_tables}
+use Rattle.ckr_points.specs.Follows.{is_in_state, of_run, state_number}
+use Rattle.ckr_points.specs.Office.{Office, is_holder}
+use Rattle.ckr_points.specs.Rows.{RunRow, TablesModel, no_tables, run_of}
+use Rattle.ckr_points.specs.declared.run.RunState.{RunState}
+use Rattle.ckr_points.specs.declared.run.RunState.TheVariants.{Queued}
 use Rattle.ckr_desk_refines.specs.RewriteRecord.{HasLast}
-use Rattle.ckr_desk_refines.specs.Standing.{AllStand, PointsStand, StandsForDesk, step_on}
+use Rattle.ckr_desk_refines.specs.Standing.{AllStand, PointsStand, StandsForDesk, StandsForPoint, step_on}
 use Rattle.ckr_desk_store.specs.OpenImages.{event_records}
 use Rattle.ckr_desk_turn.specs.Desk.{DeskModel}
 use Rattle.ckr_volumes.specs.declared.layout.Layout.{Layout}
 use Rattle.ckr_desk.specs.Opening.{behind_records}
+use Rattle.ckr_desk.specs.NoChange.{HaveStayed}
 use Rattle.ckr_desk.specs.Soundness.{IsTrusted, events_in, last_on, office_on, state_of}
 use Rattle.ckr_desk.specs.State.{RoomyDesk, DeskView}
 
--- what is seen of the jobs in memory, but for their room
-pub record AreSame (old new : JobsView) : Type 0 where
-  pub tables : new.tables.desk ≡ old.tables.desk
-  pub running : new.running ≡ old.running
-  pub failed : new.failed ≡ old.failed
-  pub points : new.points ≡ old.points
+-- a run within its step that holds its names doesn't wait in the queue
+step-waits-not : (tables : TablesModel) (run : ℕ) (row : RunRow) → run_of tables run ≡ Some row → is_in_step row ≡ true → of_run tables run (is_in_state Queued) ≡ false
+step-waits-not tables run row at inside =
+    ap (λ (o : Option RunRow). option_map_or (is_in_state Queued) o false) at ∙ by row.state (and-first (is_holder row.state) _ inside)
+  where
+    by : (state : RunState) → is_holder state ≡ true → (state_number state == state_number Queued) ≡ false
+    by Queued holds = absurd (false≢true holds)
+    by _ holds = refl
 
-pub stands-same : (layout : Layout) (old new : JobsView) (image : List ℕ) (desk : DeskModel) → AreSame old new → StandsForDesk layout old image desk → StandsForDesk layout new image desk
+-- the points in memory still stand
+points-same : (office : Office) (old new : JobsView) → HaveStayed old new → old.tables.desk ≡ office.tables → PointsStand office old.points → PointsStand office new.points
+points-same office old new same tables stand run row entry start at inside effect start_at =
+    let its : StandsForPoint old.points run start entry = stand run row entry start at inside effect start_at in
+    record {
+      point = its.point;
+      found = same.points run (ap (λ (t : TablesModel). of_run t run (is_in_state Queued)) tables ∙ step-waits-not office.tables run row at inside) ∙ its.found;
+      stands = its.stands;
+      writes = its.writes;
+      unclosed = its.unclosed;
+      served = its.served;
+    }
+
+pub stands-same : (layout : Layout) (old new : JobsView) (image : List ℕ) (desk : DeskModel) → HaveStayed old new → StandsForDesk layout old image desk → StandsForDesk layout new image desk
 stands-same layout old new image desk same stands = record {
   layout_is = stands.layout_is;
   is_desk = stands.is_desk;
@@ -31,14 +55,14 @@ stands-same layout old new image desk same stands = record {
   failed = same.failed ∙ stands.failed;
   running = subst (λ (r : List RunningStepView). AllStand desk.layout desk.office image r desk.running) (sym same.running) stands.running;
   differ_so = stands.differ_so;
-  points = subst (PointsStand desk.office) (sym same.points) stands.points;
+  points = points-same desk.office old new same stands.tables stands.points;
   committed = stands.committed;
 }
 
 module _ {D : Type 0} (told : Type 0) (content : D → List ℕ) (may_leave : D → List ℕ → Type 0) where
   -- the disk reads the same, and leaves nothing else
   pub record IsAsBefore (old new : DeskView D) : Type 0 where
-    pub jobs : AreSame old.jobs new.jobs
+    pub jobs : HaveStayed old.jobs new.jobs
     pub layout : new.store.layout ≡ old.store.layout
     pub room : room_of new.store.book ≡ room_of old.store.book
     pub reads : content new.store.disk ≡ content old.store.disk

@@ -7,7 +7,7 @@ use Rattle.ckr_console.specs.declared.question.Answer.{Answer}
 use Rattle.ckr_events.specs.declared.event.Event.{Event}
 use Rattle.ckr_events.specs.declared.event.Event.TheVariants.{Checkpointed, Submitted, Rewritten}
 use Rattle.ckr_events.specs.Event.{IsSmall, spelling}
-use Rattle.ckr_desk_memory.specs.Replay.{deck_of, goes_on, is_run_by}
+use Rattle.ckr_desk_memory.specs.Replay.{deck_of, goes_on, has_few_digits}
 use Rattle.ckr_desk_memory.specs.View.{jobs_of}
 use Rattle.ckr_desk_turn.proofs.Turns.Initiator.{turn-keeps}
 use Rattle.ckr_desk_turn.specs.NextEvents.{EventComes}
@@ -19,9 +19,8 @@ use Rattle.ckr_points.specs.Rows.{TablesModel}
 use Rattle.ckr_desk_refines.proofs.Standing.Plans.{plans-so}
 use Rattle.ckr_desk_refines.specs.Entries.{HasEntries}
 use Rattle.ckr_desk_refines.specs.RewriteRecord.{RewriteRecord, rewrite_of}
-use Rattle.ckr_desk_refines.specs.Moves.{HasSameRecords}
+use Rattle.ckr_desk_refines.specs.Moves.{HasSameRecords, KnowsItsEntry}
 use Rattle.ckr_desk_store.specs.OpenImages.{Opens, event_records}
-use Rattle.ckr_desk_memory.specs.ForwardEvents.{is_forward_event}
 use Rattle.ckr_desk_refines.proofs.Events.Turns.{told-committed, told-stands}
 use Rattle.ckr_desk_turn.specs.declared.plan.Plan.{Plan}
 use Rattle.ckr_desk_turn.specs.declared.plan.Plan.TheVariants.{Rest, Tell, Work, Pass, Take, Ask, Wait}
@@ -37,14 +36,13 @@ use Rattle.ckr_desk.proofs.Images.NextEvent.{deck-none}
 use Rattle.ckr_desk.proofs.Images.Entries.{HasNewOne, behind-same}
 use Rattle.ckr_desk.proofs.Images.Soundness.{again-so, kept-behind, kept-left, kept-same}
 use Rattle.ckr_desk.proofs.Images.WrittenRecord.{TellsRecord}
-use Rattle.ckr_desk.proofs.Trust.Restartless.{trusted-restartless}
-use Rattle.ckr_desk.proofs.Turns.PlainEvents.{IsQuietPlan, decided-quiet, is_quiet, plain-known, plan-quiet, quiet-plain, seen-restartless}
+use Rattle.ckr_desk.proofs.Turns.QuietEvents.{IsQuietPlan, decided-quiet, is_quiet, plan-quiet}
 use Rattle.ckr_desk.proofs.Trust.Events.{IsBehind, IsComing, desk-behind}
 use Rattle.ckr_desk.specs.Requests.{has_room, room_behind}
 use Rattle.ckr_desk.specs.Calls.{HasGoneOn, IsLeftBy, IsSettledBehind, may_keep}
 use Rattle.ckr_desk.specs.Rewrite.{IsWrittenBy, LacksAtMost, OpensSame}
 use Rattle.ckr_desk.specs.Turn.{behind_turn, event_of_turn, turn_fits}
-use Rattle.ckr_desk.specs.Units.{HasGoneBehind, HasWrittenBehind, IsLeftBehind, IsPlainTold}
+use Rattle.ckr_desk.specs.Units.{HasGoneBehind, HasWrittenBehind, IsLeftBehind, IsSettledPlan}
 use Rattle.ckr_desk.specs.Soundness.{HasKept, IsTrusted, office_on, state_of}
 use Rattle.ckr_desk.specs.State.{RoomyDesk, DeskView, need_of}
 
@@ -52,14 +50,14 @@ use Rattle.ckr_desk.specs.State.{RoomyDesk, DeskView, need_of}
 abbrev pub done_so : Plan → Bool → DeskModel → TurnDone
 done_so plan asked desk = record (done_by plan desk) { asked = asked }
 
-settled-done : (answer : Answer) (plan : Plan) (desk : DeskModel) → IsPlainTold (decide answer plan) → carried_out answer plan desk ≡ done_so (decide answer plan) (is_ask plan) desk
-settled-done answer (Rest reply) desk plain = refl
-settled-done answer (Tell reply event) desk plain = refl
-settled-done answer (Work job) desk plain = absurd plain
-settled-done answer (Pass job reply) desk plain = absurd plain
-settled-done answer (Take job) desk plain = absurd plain
-settled-done answer (Ask inquiry) desk plain = refl
-settled-done answer (Wait job code) desk plain = refl
+settled-done : (answer : Answer) (plan : Plan) (desk : DeskModel) → IsSettledPlan (decide answer plan) → carried_out answer plan desk ≡ done_so (decide answer plan) (is_ask plan) desk
+settled-done answer (Rest reply) desk settled = refl
+settled-done answer (Tell reply event) desk settled = refl
+settled-done answer (Work job) desk settled = absurd settled
+settled-done answer (Pass job reply) desk settled = absurd settled
+settled-done answer (Take job) desk settled = absurd settled
+settled-done answer (Ask inquiry) desk settled = refl
+settled-done answer (Wait job code) desk settled = refl
 
 -- an event that isn't Rewritten tells no record, and is no submission
 pub quiet-rewrites : (event : Event) → is_quiet event ≡ true → (tables : _) → rewrite_of tables event ≡ None
@@ -82,10 +80,10 @@ pub quiet-tells : (event : Event) → is_quiet event ≡ true → (tables : Tabl
 quiet-tells (Rewritten job taken writes lengths place image) quiet tables = absurd (false≢true quiet)
 quiet-tells _ quiet tables = tt
 
--- one of a plain run runs no deck
-pub small-runs : (event : Event) → IsSmall event → is_run_by event None ≡ true
-small-runs (Submitted job cards) small = absurd small
-small-runs _ small = refl
+-- one that submits no deck has no number of many digits
+pub small-digits : (event : Event) → IsSmall event → has_few_digits event ≡ true
+small-digits (Submitted job cards) small = absurd small
+small-digits _ small = refl
 
 module _ {D : Type 0} (told : Type 0) (content : D → List ℕ) (may_leave : D → List ℕ → Type 0) (size : D → ℕ)
     (old : DeskView D) (trusted : IsTrusted told content may_leave old) (turn : Turn) (its : IsTurnOf old.store.layout turn) where
@@ -104,19 +102,19 @@ module _ {D : Type 0} (told : Type 0) (content : D → List ℕ) (may_leave : D 
   turned answer plan is = ap (λ p. carried_out answer p desk) (sym plans-desk ∙ is)
 
   -- a turn whose plan is settled by the answer comes to that
-  pub turned-settled : (answer : Answer) (plan : Plan) → decide answer (plan_of layout (jobs_of old.jobs) turn) ≡ plan → IsPlainTold plan
+  pub turned-settled : (answer : Answer) (plan : Plan) → decide answer (plan_of layout (jobs_of old.jobs) turn) ≡ plan → IsSettledPlan plan
       → turn_of desk turn answer ≡ done_so plan (is_ask (plan_of layout (jobs_of old.jobs) turn)) desk
-  turned-settled answer plan is plain =
+  turned-settled answer plan is settled =
       turned answer (plan_of layout (jobs_of old.jobs) turn) refl
-      ∙ settled-done answer (plan_of layout (jobs_of old.jobs) turn) desk (subst IsPlainTold (sym is) plain)
+      ∙ settled-done answer (plan_of layout (jobs_of old.jobs) turn) desk (subst IsSettledPlan (sym is) settled)
       ∙ ap (λ p. done_so p (is_ask (plan_of layout (jobs_of old.jobs) turn)) desk) is
 
   module _ (answer : Answer) (reply : Reply) (event : Event) (planned : decide answer (plan_of layout (jobs_of old.jobs) turn) ≡ Tell reply event) (shape : IsSpelled event) where
     pub quiet-so : is_quiet event ≡ true
-    quiet-so = subst IsQuietPlan planned (decided-quiet answer (plan_of layout (jobs_of old.jobs) turn) (plan-quiet layout (jobs_of old.jobs) (seen-restartless old.jobs (trusted-restartless told content may_leave old trusted)) turn))
+    quiet-so = subst IsQuietPlan planned (decided-quiet answer (plan_of layout (jobs_of old.jobs) turn) (plan-quiet layout (jobs_of old.jobs) turn))
 
     pub told-so : turn_of desk turn answer ≡ done_so (Tell reply event) (is_ask (plan_of layout (jobs_of old.jobs) turn)) desk
-    told-so = turned-settled answer (Tell reply event) planned (quiet-plain event quiet-so)
+    told-so = turned-settled answer (Tell reply event) planned tt
 
     none : deck_of event ≡ None
     none = deck-none event shape.small
@@ -137,8 +135,7 @@ module _ {D : Type 0} (told : Type 0) (content : D → List ℕ) (may_leave : D 
     coming-turn might = record {
       is_event = shape.event;
       goes = subst (λ d. goes_on layout old.jobs.tables.desk event d ≡ true) (sym none)
-          (and_from (is_forward_event event) _ (quiet-plain event quiet-so)
-          (and_from (is_run_by event None) _ (small-runs event shape.small) might));
+          (and_from (has_few_digits event) _ (small-digits event shape.small) might);
       next = subst (λ d. IsNext layout desk.office (event, d)) (sym none) comes;
       office = ap (λ d. office_after (event, d) (office_on layout (content old.store.disk))) (sym none);
       layout_is = refl;
@@ -152,9 +149,9 @@ module _ {D : Type 0} (told : Type 0) (content : D → List ℕ) (may_leave : D 
         behind-same told content may_leave old trusted event (behind event None desk) (coming-turn might) (content old.store.disk) image
         (quiet-takes event quiet-so layout desk.office (content old.store.disk)) trusted.entries same
 
-    pub behind-turn-so : (new : DeskView D) → new.store.layout ≡ layout → told → HasGoneBehind told content (Tell reply event) old new → IsSettledBehind content may_leave (Some event) new
+    pub behind-turn-so : KnowsItsEntry event desk old.jobs.points → (new : DeskView D) → new.store.layout ≡ layout → told → HasGoneBehind told content (Tell reply event) old new → IsSettledBehind content may_leave (Some event) new
         → IsBehind told content may_leave event old new (behind event None desk)
-    behind-turn-so new same tells gone settled =
+    behind-turn-so knows new same tells gone settled =
         let written : HasWrittenBehind content event old new = gone.1 tells in
         let same_bytes : content new.store.disk ≡ written.told_on = quiet-written event quiet-so layout new.jobs.tables.desk written.told_on (content new.store.disk) written.written in
         let same_records : HasSameRecords layout (content old.store.disk) (content new.store.disk) = subst (λ bytes. HasSameRecords layout (content old.store.disk) bytes) (sym same_bytes) written.same in
@@ -163,7 +160,7 @@ module _ {D : Type 0} (told : Type 0) (content : D → List ℕ) (may_leave : D 
           events = written.events;
           tables = gone.0.moved.tables ∙ ap (λ d. after_event event d old.jobs.tables.desk) (sym none);
           stands = told-stands layout old.jobs new.jobs (content old.store.disk) (content new.store.disk) desk turn answer reply event trusted.stands its at-desk
-              (plain-known event (quiet-plain event quiet-so) desk old.jobs.points) gone.0.moved same_records;
+              knows gone.0.moved same_records;
           entries = entries-so gone.0.might (content new.store.disk) same_records;
           settled = settled;
         }

@@ -5,10 +5,11 @@ use Rattle.ckr_base.specs.declared.code.Code.{Code}
 use Rattle.ckr_console.specs.declared.question.Answer.{Answer}
 use Rattle.ckr_events.specs.declared.event.Event.{Event}
 use Rattle.ckr_desk_memory.specs.Plans.{IsSpelledPlan, NeedsRoom}
-use Rattle.ckr_desk_memory.specs.View.{jobs_of}
+use Rattle.ckr_desk_memory.specs.View.{PointView, jobs_of}
 use Rattle.ckr_desk_turn.specs.Invariant.{IsTurnOf}
 use Rattle.ckr_outside.specs.Disk.{EachSince}
 use Rattle.ckr_outside.specs.Moments.{in_other_words}
+use Rattle.ckr_points.specs.Rows.{TablesModel}
 use Rattle.ckr_desk_refines.specs.Moves.{event_in, reply_in}
 use Rattle.ckr_desk_store.specs.OpenImages.{event_records}
 use Rattle.ckr_desk_store.specs.State.{StoreView}
@@ -16,7 +17,7 @@ use Rattle.ckr_desk_turn.specs.declared.plan.Plan.{Plan}
 use Rattle.ckr_desk_turn.specs.declared.plan.Plan.TheVariants.{Rest, Tell, Work, Pass, Take, Ask, Wait}
 use Rattle.ckr_desk_turn.specs.declared.reply.Reply.{Reply}
 use Rattle.ckr_desk_turn.specs.declared.reply.Turn.{Turn}
-use Rattle.ckr_desk_turn.specs.Desk.{TurnDone}
+use Rattle.ckr_desk_turn.specs.Desk.{DeskModel, TurnDone}
 use Rattle.ckr_desk_turn.specs.Inquiries.{decide, is_ask}
 use Rattle.ckr_desk_turn.specs.Plans.{plan_of}
 use Rattle.ckr_desk_turn.specs.Turns.{turn_of}
@@ -26,19 +27,20 @@ use Rattle.ckr_desk.proofs.Trust.Counts.{trusted-counted}
 use Rattle.ckr_desk.proofs.Trust.Events.{trusted-behind}
 use Rattle.ckr_desk.proofs.Turns.Events.{behind-turn-so, coming-turn, done_so, image-kept, plans-desk, state-behind, turn-fits-so, turned-settled}
 use Rattle.ckr_desk.proofs.Turns.Decided.{by-answer, by-decide, decided-settled}
-use Rattle.ckr_desk.proofs.Turns.PlainEvents.{decided-plain}
 use Rattle.ckr_desk.proofs.Turns.Resting.{state-resting, trusted-resting}
 use Rattle.ckr_desk_refines.proofs.Events.Turns.{turn-waits}
 use Rattle.ckr_desk_refines.specs.Standing.{StandsForDesk}
 use Rattle.ckr_desk.specs.declared.error.DeskError.{DeskError}
 use Rattle.ckr_desk.specs.declared.error.DeskError.TheVariants.{NoMemory, DiskFault, BookFull, Stopped}
+use Rattle.ckr_desk.specs.Continuation.{PlanKnows, PlanStandsAt}
+use Rattle.ckr_desk.specs.Records.{ReadingCause}
 use Rattle.ckr_desk.specs.Requests.{FailsBy, IsFull, MayFail, has_room, room_behind, spelled}
 use Rattle.ckr_desk.specs.Calls.{IsSettledBehind}
 use Rattle.ckr_desk.specs.Preparation.{LacksAnswers, MayLack, NotReadyFor, NotSettled}
 use Rattle.ckr_desk.specs.Rewrite.{OpensSame}
 use Rattle.ckr_desk.specs.NoChange.{HasHalted, IsOfDisk, StaysBy}
 use Rattle.ckr_desk.specs.Turn.{asks, behind_turn, event_of_turn, reply_of, turn_fits}
-use Rattle.ckr_desk.specs.Units.{HasGoneBehind, IsLeftBehind, IsPlainPlan, IsPlainTold, NotBehind, TakesBy, needs_some}
+use Rattle.ckr_desk.specs.Units.{HasGoneBehind, IsLeftBehind, IsSettledPlan, NotBehind, TakesBy, needs_some}
 use Rattle.ckr_desk.specs.Soundness.{HasKept, IsTrusted, KeepsWithin, state_of}
 use Rattle.ckr_desk.specs.State.{RoomyDesk, DeskView}
 
@@ -68,6 +70,19 @@ go-may-fail faults old new (Tell reply event) DiskFault not = not
 go-may-fail faults old new (Tell reply event) (BookFull need room) not = absurd not
 go-may-fail faults old new (Tell reply event) (Stopped fault) not = absurd not
 go-may-fail faults old new _ error not = absurd not
+
+-- where an entry wasn't read
+pub reading-fails : {D : Type 0} (faults : D → ℕ) (old new : StoreView D) (room : ℕ) (event : Option Event) (error : DeskError) → ReadingCause faults old new error → FailsBy room event error
+reading-fails faults old new room event NoMemory not = tt
+reading-fails faults old new room event DiskFault not = tt
+reading-fails faults old new room event (BookFull need left) not = absurd not
+reading-fails faults old new room event (Stopped fault) not = tt
+
+pub reading-takes : (reply : Reply) (event : Option Event) (asked : Bool) (error : DeskError) → TakesBy reply event asked NoMemory → TakesBy reply event asked error
+reading-takes reply event asked NoMemory takes = takes
+reading-takes reply event asked DiskFault takes = tt
+reading-takes reply event asked (BookFull need room) takes = tt
+reading-takes reply event asked (Stopped fault) takes = tt
 
 -- only the disk fails then
 pub go-of-disk : {D : Type 0} (faults : D → ℕ) (old new : DeskView D) (plan : Plan) (error : DeskError) → NotBehind faults plan old new error → IsOfDisk error
@@ -117,21 +132,23 @@ decided-rests : (answer : Answer) (plan : Plan) → is_work plan ≡ false → i
 decided-rests answer plan rests =
     by-decide (λ its. is_work its ≡ false) answer plan (λ inquiry is. by-answer (λ its. is_work its ≡ false) answer inquiry refl refl refl refl refl) (λ other. rests)
 
--- what a plan tells that is no unit is plain, once it is settled
-settled-plain : (answer : Answer) (plan : Plan) → IsPlainPlan (decide answer plan) → is_ask (decide answer plan) ≡ false → is_work (decide answer plan) ≡ false → IsPlainTold (decide answer plan)
-settled-plain answer plan = by (decide answer plan)
-  where
-    by : (settled : Plan) → IsPlainPlan settled → is_ask settled ≡ false → is_work settled ≡ false → IsPlainTold settled
-    by (Rest reply) plain settled rests = tt
-    by (Tell reply event) plain settled rests = plain
-    by (Work job) plain settled rests = absurd (true≢false rests)
-    by (Pass job reply) plain settled rests = absurd (true≢false rests)
-    by (Take job) plain settled rests = absurd (true≢false rests)
-    by (Ask inquiry) plain settled rests = absurd (true≢false settled)
-    by (Wait job code) plain settled rests = tt
+-- what is no unit and asks nobody is settled
+settled-by : (plan : Plan) → is_ask plan ≡ false → is_work plan ≡ false → IsSettledPlan plan
+settled-by (Work job) settled rests = absurd (true≢false rests)
+settled-by (Pass job reply) settled rests = absurd (true≢false rests)
+settled-by (Take job) settled rests = absurd (true≢false rests)
+settled-by (Ask inquiry) settled rests = absurd (true≢false settled)
+settled-by _ settled rests = tt
 
-pub plain-told : (answer : Answer) (plan : Plan) → IsPlainPlan plan → is_work plan ≡ false → IsPlainTold (decide answer plan)
-plain-told answer plan plain rests = settled-plain answer plan (decided-plain answer plan plain) (decided-settled answer plan) (decided-rests answer plan rests)
+pub settled-so : (answer : Answer) (plan : Plan) → is_work plan ≡ false → IsSettledPlan (decide answer plan)
+settled-so answer plan rests = settled-by (decide answer plan) (decided-settled answer plan) (decided-rests answer plan rests)
+
+-- the operator's answer goes on with no earlier run
+pub decided-knows : (tables : TablesModel) (points : List PointView) (answer : Answer) (plan : Plan) → PlanKnows tables points plan → PlanKnows tables points (decide answer plan)
+decided-knows tables points answer plan knows = by-decide (PlanKnows tables points) answer plan (λ inquiry is. by-answer (PlanKnows tables points) answer inquiry tt tt tt tt tt) (λ other. knows)
+
+pub decided-stands : (desk : DeskModel) (points : List PointView) (answer : Answer) (plan : Plan) → PlanStandsAt desk points plan → PlanStandsAt desk points (decide answer plan)
+decided-stands desk points answer plan stands = by-decide (PlanStandsAt desk points) answer plan (λ inquiry is. by-answer (PlanStandsAt desk points) answer inquiry tt tt tt tt tt) (λ other. stands)
 
 -- the events behind it
 same-told : {D : Type 0} (content : D → List ℕ) (old new : DeskView D) → new.store ≡ old.store → event_records old.store.layout (content new.store.disk) ≡ event_records old.store.layout (content old.store.disk) ++ []
@@ -157,7 +174,7 @@ module _ {D : Type 0} (told : Type 0) (content : D → List ℕ) (may_leave : D 
 
   -- this is what the turn comes to, with the answer
   abbrev pub ComesTo : Plan → Type 0
-  ComesTo plan = (decide answer (plan_of old.store.layout (jobs_of old.jobs) turn) ≡ plan) × IsPlainTold plan
+  ComesTo plan = (decide answer (plan_of old.store.layout (jobs_of old.jobs) turn) ≡ plan) × IsSettledPlan plan
 
   comes-so : (plan : Plan) → ComesTo plan → turn_of state.desk turn answer ≡ done_so plan (is_ask (plan_of old.store.layout (jobs_of old.jobs) turn)) state.desk
   comes-so plan is = turned-settled told content may_leave size old trusted turn its answer plan is.0 is.1
@@ -235,29 +252,29 @@ module _ {D : Type 0} (told : Type 0) (content : D → List ℕ) (may_leave : D 
       subst (λ (e : Option Event). event_records old.store.layout (content new.store.disk) ≡ event_records old.store.layout (content old.store.disk) ++ spelled e) (go-event plan is)
       (gone-told told content plan old new trusted.tells gone)
 
-  pub go-after : (plan : Plan) (new : DeskView D) → ComesTo plan → IsSpelledPlan plan → new.store.layout ≡ old.store.layout
+  pub go-after : (plan : Plan) (new : DeskView D) → ComesTo plan → PlanStandsAt state.desk old.jobs.points plan → IsSpelledPlan plan → new.store.layout ≡ old.store.layout
       → HasGoneBehind told content plan old new → IsSettledBehind content may_leave (event_in plan) new → state_of content new ≡ behind_turn state turn answer
-  go-after (Rest reply) new is shape same gone settled = ap (λ s. state_of content s) gone ∙ rest-state reply is
-  go-after (Tell reply event) new is shape same gone settled =
+  go-after (Rest reply) new is stands shape same gone settled = ap (λ s. state_of content s) gone ∙ rest-state reply is
+  go-after (Tell reply event) new is stands shape same gone settled =
       state-behind told content may_leave size old trusted turn its answer reply event is.0 shape.0 new gone.0.might gone.0
-      (behind-turn-so told content may_leave size old trusted turn its answer reply event is.0 shape.0 new same trusted.tells gone settled)
-  go-after (Wait job code) new is shape same gone settled = wait-state job code is new gone
-  go-after (Work job) new is shape same gone settled = absurd is.1
-  go-after (Pass job reply) new is shape same gone settled = absurd is.1
-  go-after (Take job) new is shape same gone settled = absurd is.1
-  go-after (Ask inquiry) new is shape same gone settled = absurd is.1
+      (behind-turn-so told content may_leave size old trusted turn its answer reply event is.0 shape.0 stands new same trusted.tells gone settled)
+  go-after (Wait job code) new is stands shape same gone settled = wait-state job code is new gone
+  go-after (Work job) new is stands shape same gone settled = absurd is.1
+  go-after (Pass job reply) new is stands shape same gone settled = absurd is.1
+  go-after (Take job) new is stands shape same gone settled = absurd is.1
+  go-after (Ask inquiry) new is stands shape same gone settled = absurd is.1
 
-  pub go-trusted : (plan : Plan) (new : DeskView D) → ComesTo plan → IsSpelledPlan plan → new.store.layout ≡ old.store.layout
+  pub go-trusted : (plan : Plan) (new : DeskView D) → ComesTo plan → PlanStandsAt state.desk old.jobs.points plan → IsSpelledPlan plan → new.store.layout ≡ old.store.layout
       → HasGoneBehind told content plan old new → IsSettledBehind content may_leave (event_in plan) new → IsTrusted told content may_leave new
-  go-trusted (Rest reply) new is shape same gone settled = subst (IsTrusted told content may_leave) (sym gone) trusted
-  go-trusted (Tell reply event) new is shape same gone settled =
+  go-trusted (Rest reply) new is stands shape same gone settled = subst (IsTrusted told content may_leave) (sym gone) trusted
+  go-trusted (Tell reply event) new is stands shape same gone settled =
       trusted-behind told content may_leave event old new _ (coming-turn told content may_leave size old trusted turn its answer reply event is.0 shape.0 gone.0.might)
-      (behind-turn-so told content may_leave size old trusted turn its answer reply event is.0 shape.0 new same trusted.tells gone settled) trusted
-  go-trusted (Wait job code) new is shape same gone settled = wait-trusted job code is new gone
-  go-trusted (Work job) new is shape same gone settled = absurd is.1
-  go-trusted (Pass job reply) new is shape same gone settled = absurd is.1
-  go-trusted (Take job) new is shape same gone settled = absurd is.1
-  go-trusted (Ask inquiry) new is shape same gone settled = absurd is.1
+      (behind-turn-so told content may_leave size old trusted turn its answer reply event is.0 shape.0 stands new same trusted.tells gone settled) trusted
+  go-trusted (Wait job code) new is stands shape same gone settled = wait-trusted job code is new gone
+  go-trusted (Work job) new is stands shape same gone settled = absurd is.1
+  go-trusted (Pass job reply) new is stands shape same gone settled = absurd is.1
+  go-trusted (Take job) new is stands shape same gone settled = absurd is.1
+  go-trusted (Ask inquiry) new is stands shape same gone settled = absurd is.1
 
   -- what a stop leaves
   image-left : (plan : Plan) → ComesTo plan → IsSpelledPlan plan
@@ -297,24 +314,23 @@ module _ {D : Type 0} (told : Type 0) (content : D → List ℕ) (may_leave : D 
   lacking plan new (BookFull need room) not = absurd not
   lacking plan new (Stopped fault) not = absurd not
 
-  pub go-unsettled : (plan : Plan) (new : DeskView D) (error : DeskError) → plan_of old.store.layout (jobs_of old.jobs) turn ≡ plan → IsPlainTold (decide answer plan)
+  pub go-unsettled : (plan : Plan) (new : DeskView D) (error : DeskError) → plan_of old.store.layout (jobs_of old.jobs) turn ≡ plan → IsSettledPlan (decide answer plan)
       → NotSettled answer plan old new error → FailsBy state.room (event_of_turn state turn answer) error
-  go-unsettled plan new error is plain (inl lacks) = lacking plan new error lacks
-  go-unsettled plan new error is plain (inr not) = unready (event_in (decide answer plan)) (go-event (decide answer plan) (ap (decide answer) is, plain)) new error not
+  go-unsettled plan new error is settled (inl lacks) = lacking plan new error lacks
+  go-unsettled plan new error is settled (inr not) = unready (event_in (decide answer plan)) (go-event (decide answer plan) (ap (decide answer) is, settled)) new error not
 
   -- a plan that tells an event that needs memory, or asks the operator
-  needs-by : (plan : Plan) → plan_of old.store.layout (jobs_of old.jobs) turn ≡ plan → IsPlainPlan plan → NeedsRoom plan → TakesBy (reply_of state turn answer) (event_of_turn state turn answer) (asks state turn answer) NoMemory
-  needs-by (Rest reply) is plain needs = absurd needs
-  needs-by (Tell reply event) is plain needs = inl (ap needs_some (sym (go-event (Tell reply event) (ap (decide answer) is, plain))) ∙ needs)
-  needs-by (Work job) is plain needs = absurd needs
-  needs-by (Pass job reply) is plain needs = absurd needs
-  needs-by (Take job) is plain needs = absurd needs
-  needs-by (Ask inquiry) is plain needs = inr (inl (go-asks (decide answer (Ask inquiry)) (ap (decide answer) is, plain-told answer (Ask inquiry) tt refl) ∙ ap is_ask is))
-  needs-by (Wait job code) is plain needs = absurd needs
+  needs-by : (plan : Plan) → plan_of old.store.layout (jobs_of old.jobs) turn ≡ plan → NeedsRoom plan → TakesBy (reply_of state turn answer) (event_of_turn state turn answer) (asks state turn answer) NoMemory
+  needs-by (Rest reply) is needs = absurd needs
+  needs-by (Tell reply event) is needs = inl (ap needs_some (sym (go-event (Tell reply event) (ap (decide answer) is, tt))) ∙ needs)
+  needs-by (Work job) is needs = absurd needs
+  needs-by (Pass job reply) is needs = absurd needs
+  needs-by (Take job) is needs = absurd needs
+  needs-by (Ask inquiry) is needs = inr (inl (go-asks (decide answer (Ask inquiry)) (ap (decide answer) is, settled-so answer (Ask inquiry) refl) ∙ ap is_ask is))
+  needs-by (Wait job code) is needs = absurd needs
 
-  pub go-needs : IsPlainPlan (plan_of old.store.layout (jobs_of old.jobs) turn) → NeedsRoom (plan_of old.store.layout (jobs_of old.jobs) turn)
-      → TakesBy (reply_of state turn answer) (event_of_turn state turn answer) (asks state turn answer) NoMemory
-  go-needs plain needs = needs-by (plan_of old.store.layout (jobs_of old.jobs) turn) refl plain needs
+  pub go-needs : NeedsRoom (plan_of old.store.layout (jobs_of old.jobs) turn) → TakesBy (reply_of state turn answer) (event_of_turn state turn answer) (asks state turn answer) NoMemory
+  go-needs needs = needs-by (plan_of old.store.layout (jobs_of old.jobs) turn) refl needs
 
   unready-takes : (event : Option Event) → event ≡ event_of_turn state turn answer → (new : DeskView D) (error : DeskError) → old.store.layout.book ≤ 4294967295 → NotReadyFor event old new error
       → TakesBy (reply_of state turn answer) (event_of_turn state turn answer) (asks state turn answer) error
@@ -335,10 +351,10 @@ module _ {D : Type 0} (told : Type 0) (content : D → List ℕ) (may_leave : D 
   lacking-takes plan new (BookFull need room) is not = absurd not
   lacking-takes plan new (Stopped fault) is not = absurd not
 
-  pub unsettled-takes : (plan : Plan) (new : DeskView D) (error : DeskError) → old.store.layout.book ≤ 4294967295 → plan_of old.store.layout (jobs_of old.jobs) turn ≡ plan → IsPlainTold (decide answer plan)
+  pub unsettled-takes : (plan : Plan) (new : DeskView D) (error : DeskError) → old.store.layout.book ≤ 4294967295 → plan_of old.store.layout (jobs_of old.jobs) turn ≡ plan → IsSettledPlan (decide answer plan)
       → NotSettled answer plan old new error → TakesBy (reply_of state turn answer) (event_of_turn state turn answer) (asks state turn answer) error
-  unsettled-takes plan new error small is plain (inl lacks) = lacking-takes plan new error (go-asks (decide answer plan) (ap (decide answer) is, plain) ∙ ap is_ask is) lacks
-  unsettled-takes plan new error small is plain (inr not) = unready-takes (event_in (decide answer plan)) (go-event (decide answer plan) (ap (decide answer) is, plain)) new error small not
+  unsettled-takes plan new error small is settled (inl lacks) = lacking-takes plan new error (go-asks (decide answer plan) (ap (decide answer) is, settled) ∙ ap is_ask is) lacks
+  unsettled-takes plan new error small is settled (inr not) = unready-takes (event_in (decide answer plan)) (go-event (decide answer plan) (ap (decide answer) is, settled)) new error small not
 
   told-cause : (reply : Reply) (event : Event) (new : DeskView D) (error : DeskError) → NotBehind faults (Tell reply event) old new error → FailsBy state.room (event_of_turn state turn answer) error
   told-cause reply event new NoMemory not = absurd not

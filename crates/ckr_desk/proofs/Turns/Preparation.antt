@@ -1,12 +1,15 @@
 -- A turn that begins where the disk was only read, and the jobs took memory, from the desk as it stood.
-use Rattle.std.proofs.Common.{◌≡◌, ◌++◌, ℕ, List, true, refl, ap, sym, ◌∙◌, subst, Result, Ok, Err, IfErr, IfOk, OnOk, map}
+use Rattle.std.proofs.Common.{◌≡◌, ◌++◌, ℕ, List, true, find, refl, ap, sym, ◌∙◌, subst, Result, Ok, Err, IfErr, IfOk, OnOk, map}
 use Rattle.ckr_book.specs.Book.{room_of}
 use Rattle.ckr_console.specs.declared.question.Answer.{Answer}
+use Rattle.ckr_desk_memory.specs.EventChanges.{is_point_of}
 use Rattle.ckr_desk_memory.specs.View.{JobsView, RunningStepView, jobs_of, running_of}
 use Rattle.ckr_desk_turn.specs.declared.failed_run.FailedRun.{FailedRun}
 use Rattle.ckr_outside.specs.Disk.{EachSince, OnlyReads}
 use Rattle.ckr_outside.specs.Moments.{and_then, in_other_words}
+use Rattle.ckr_points.specs.Follows.{is_in_state, of_run}
 use Rattle.ckr_points.specs.Rows.{TablesModel}
+use Rattle.ckr_points.specs.declared.run.RunState.TheVariants.{Queued}
 use Rattle.ckr_desk_store.specs.OpenImages.{event_records}
 use Rattle.ckr_desk_store.specs.State.{StoreView}
 use Rattle.ckr_desk_turn.specs.declared.plan.Plan.{Plan}
@@ -17,7 +20,7 @@ use Rattle.ckr_desk_turn.specs.Plans.{plan_of}
 use Rattle.ckr_volumes.specs.declared.layout.Layout.{Layout}
 use Rattle.ckr_desk_turn.specs.Invariant.{IsTurnOf}
 use Rattle.ckr_desk.proofs.Images.Soundness.{kept-left}
-use Rattle.ckr_desk.proofs.Trust.Sameness.{AreSame, IsAsBefore, state-same, trusted-same}
+use Rattle.ckr_desk.proofs.Trust.Sameness.{IsAsBefore, state-same, trusted-same}
 use Rattle.ckr_desk.specs.Requests.{FailsBy, came_by, spelled}
 use Rattle.ckr_desk.specs.Calls.{HasSameJobs}
 use Rattle.ckr_desk.specs.declared.error.DeskError.{DeskError}
@@ -25,12 +28,12 @@ use Rattle.ckr_desk.specs.declared.error.DeskError.TheVariants.{NoMemory, DiskFa
 use Rattle.ckr_desk.specs.Rewrite.{OpensSame}
 use Rattle.ckr_desk.specs.Soundness.{HasKept, IsTrusted, KeepsWithin, state_of}
 use Rattle.ckr_desk.specs.State.{DeskView, RoomyDesk}
-use Rattle.ckr_desk.specs.NoChange.{IsOfDisk, IsUnchanged}
+use Rattle.ckr_desk.specs.NoChange.{HaveStayed, IsOfDisk, IsUnchanged}
 use Rattle.ckr_desk.specs.Turn.{asks, behind_turn, event_of_turn, reply_of, turn_fits}
 use Rattle.ckr_desk.specs.Units.{HasTurned, IsPlanned, TakesBy}
 
 -- a turn sees the same of the jobs
-jobs-same : (old new : JobsView) → AreSame old new → jobs_of new ≡ jobs_of old
+jobs-same : (old new : JobsView) → HaveStayed old new → jobs_of new ≡ jobs_of old
 unfolding jobs_of
 jobs-same old new same =
     ap (λ tables. jobs_with tables new.running new.failed) same.tables
@@ -40,8 +43,17 @@ jobs-same old new same =
     jobs_with : TablesModel → List RunningStepView → List FailedRun → TurnJobs
     jobs_with tables running failed = record { tables = tables; running = map (running_of tables) running; failed = failed }
 
-pub seen-alike : {D : Type 0} (old new : DeskView D) → HasSameJobs old new → AreSame old.jobs new.jobs
-seen-alike old new same = record { tables = same.tables; running = same.running; failed = same.failed; points = same.points }
+pub seen-alike : {D : Type 0} (old new : DeskView D) → HasSameJobs old new → HaveStayed old.jobs new.jobs
+seen-alike old new same = record { tables = same.tables; running = same.running; failed = same.failed; points = λ run off. ap (find (is_point_of run)) same.points }
+
+-- one after the other
+pub twice-stayed : (old mid new : JobsView) → HaveStayed old mid → HaveStayed mid new → HaveStayed old new
+twice-stayed old mid new one two = record {
+  tables = two.tables ∙ one.tables;
+  running = two.running ∙ one.running;
+  failed = two.failed ∙ one.failed;
+  points = λ run off. two.points run (ap (λ (t : TablesModel). of_run t run (is_in_state Queued)) one.tables ∙ off) ∙ one.points run off;
+}
 
 -- ---- what is the same, and what is unchanged
 
@@ -49,7 +61,7 @@ module _ {D : Type 0} (content : D → List ℕ) (may_leave : D → List ℕ →
   -- where the disk isn't called
   pub same-unchanged : HasSameJobs old new → new.store ≡ old.store → IsUnchanged content may_leave old new
   same-unchanged jobs store = record {
-    jobs = jobs;
+    jobs = seen-alike old new jobs;
     store = store ∙ ap (λ (s : StoreView D). let its : StoreView D = record old.store { disk = s.disk } in its) (sym store);
     reads = ap (λ (s : StoreView D). content s.disk) store;
     none_new = λ image may. subst (λ (s : StoreView D). may_leave s.disk image) store may;
@@ -58,11 +70,11 @@ module _ {D : Type 0} (content : D → List ℕ) (may_leave : D → List ℕ →
   -- where it is only read
   pub read-unchanged : (moment : D → ℕ) (left_since : D → ℕ → List ℕ → Type 0) → HasSameJobs old new → new.store ≡ record old.store { disk = new.store.disk }
       → OnlyReads content may_leave moment left_since old.store.disk new.store.disk → IsUnchanged content may_leave old new
-  read-unchanged moment left_since jobs store reads = record { jobs = jobs; store = store; reads = reads.same; none_new = reads.none_new }
+  read-unchanged moment left_since jobs store reads = record { jobs = seen-alike old new jobs; store = store; reads = reads.same; none_new = reads.none_new }
 
   pub as-before : (told : Type 0) → IsUnchanged content may_leave old new → IsAsBefore told content may_leave old new
   as-before told is = record {
-    jobs = seen-alike old new is.jobs;
+    jobs = is.jobs;
     layout = ap (λ (s : StoreView D). s.layout) is.store;
     room = ap (λ (s : StoreView D). room_of s.book) is.store;
     reads = is.reads;
@@ -71,12 +83,12 @@ module _ {D : Type 0} (content : D → List ℕ) (may_leave : D → List ℕ →
 
 -- nothing was done
 pub nothing-changed : {D : Type 0} (content : D → List ℕ) (may_leave : D → List ℕ → Type 0) (desk : DeskView D) → IsUnchanged content may_leave desk desk
-nothing-changed content may_leave desk = record { jobs = record { tables = refl; running = refl; failed = refl; points = refl }; store = refl; reads = refl; none_new = λ image may. may }
+nothing-changed content may_leave desk = record { jobs = record { tables = refl; running = refl; failed = refl; points = λ run off. refl }; store = refl; reads = refl; none_new = λ image may. may }
 
 -- one after the other
 pub twice-unchanged : {D : Type 0} (content : D → List ℕ) (may_leave : D → List ℕ → Type 0) (old mid new : DeskView D) → IsUnchanged content may_leave old mid → IsUnchanged content may_leave mid new → IsUnchanged content may_leave old new
 twice-unchanged {D} content may_leave old mid new one two = record {
-  jobs = record { tables = two.jobs.tables ∙ one.jobs.tables; running = two.jobs.running ∙ one.jobs.running; failed = two.jobs.failed ∙ one.jobs.failed; points = two.jobs.points ∙ one.jobs.points };
+  jobs = twice-stayed old.jobs mid.jobs new.jobs one.jobs two.jobs;
   store = two.store ∙ ap (λ (s : StoreView D). let its : StoreView D = record s { disk = new.store.disk } in its) one.store;
   reads = two.reads ∙ one.reads;
   none_new = λ image may. one.none_new image (two.none_new image may);

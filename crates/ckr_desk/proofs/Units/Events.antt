@@ -63,7 +63,7 @@ use Rattle.ckr_desk.proofs.Images.Soundness.{again-so}
 use Rattle.ckr_desk.proofs.Images.WrittenRecord.{TellsRecord}
 use Rattle.ckr_desk.proofs.Openings.LastRecord.{IsDue, due-so}
 use Rattle.ckr_desk.proofs.Turns.Events.{quiet-lacks, quiet-rewrites, quiet-takes, quiet-tells, quiet-written}
-use Rattle.ckr_desk.proofs.Turns.PlainEvents.{is_quiet}
+use Rattle.ckr_desk.proofs.Turns.QuietEvents.{is_quiet}
 use Rattle.ckr_desk.specs.Rewrite.{IsWrittenBy, LacksAtMost}
 
 -- the event of a unit may come; the desk behind it, the jobs in memory that stand for it, and what an image of a stop has

@@ -1,21 +1,20 @@
 -- What is ready for the event of a unit is ready behind the unit too.
-use Rattle.std.proofs.Common.{◌≡◌, ◌≤◌, ◌<◌, ℕ, true, false, find, List, [], ◌∷◌, refl, ap, sym, ◌∙◌, subst, Option, Some, None}
+use Rattle.std.proofs.Common.{◌≡◌, ◌≤◌, ◌<◌, ℕ, true, false, find, List, [], ◌∷◌, ap, sym, ◌∙◌, subst, Option, Some, None}
 use Rattle.std.specs.List.{AllByRecursion}
 use Rattle.std.proofs.lemmas.Bool.{false≢true, true≢false}
 use Rattle.ckr_book.specs.Book.{room_of}
 use Rattle.ckr_events.specs.declared.event.Event.{Event}
-use Rattle.ckr_events.specs.declared.event.Event.TheVariants.{Rewritten, Restarted, Held, Ended}
+use Rattle.ckr_events.specs.declared.event.Event.TheVariants.{Ended, Held, Restarted, Rewritten, Selected}
 use Rattle.ckr_desk_memory.specs.Model.RewriteCounts.{may_count}
 use Rattle.ckr_desk_memory.specs.declared.preparation.Prepared.{Prepared}
 use Rattle.ckr_desk_memory.specs.EventChanges.{is_point_of}
 use Rattle.ckr_desk_memory.proofs.Holders.OwnUnits.{others-commit}
-use Rattle.ckr_desk_memory.specs.OwnSteps.{IsOfOther, LeavesLeft, PlanCommits, PlanIsOf, PlanLeaves}
+use Rattle.ckr_desk_memory.specs.OwnSteps.{IsOfOther, KnowsItsPoint, LeavesLeft, PlanCommits, PlanIsOf, PlanLeaves}
 use Rattle.ckr_desk_memory.specs.Plans.{IsUnitPlan, is_unit_event}
 use Rattle.ckr_desk_memory.specs.Preparation.{HasAgain, IsPrepared}
 use Rattle.ckr_desk_memory.specs.View.{PointView, RunningStepView}
 use Rattle.ckr_points.specs.Rows.{TablesModel}
 use Rattle.ckr_points_tables.specs.Invariant.{HasRoom}
-use Rattle.ckr_desk_memory.specs.ForwardEvents.{is_forward_event}
 use Rattle.ckr_points_tables.specs.View.{RoomyTables}
 use Rattle.ckr_desk_refines.specs.Moves.{event_in}
 use Rattle.ckr_desk_turn.specs.Inquiries.{is_ask}
@@ -23,26 +22,27 @@ use Rattle.ckr_desk_turn.specs.declared.failed_run.FailedRun.{FailedRun}
 use Rattle.ckr_desk_turn.specs.declared.plan.Plan.{Plan}
 use Rattle.ckr_desk_turn.specs.declared.plan.Plan.TheVariants.{Rest, Tell, Work, Pass, Take, Ask, Wait}
 use Rattle.ckr_desk.specs.declared.preparation.Ready.{Ready}
+use Rattle.ckr_desk.specs.Continuation.{PlanKnows}
 use Rattle.ckr_desk.specs.Preparation.{IsReady, IsReadyFor}
 use Rattle.ckr_desk.specs.State.{DeskView, need_of}
-use Rattle.ckr_desk.specs.Units.{IsPlainTold}
+use Rattle.ckr_desk.specs.Units.{IsSettledPlan}
 
--- what a unit tells is plain
-plain-event : (event : Event) → is_unit_event event ≡ true → is_forward_event event ≡ true
-plain-event (Rewritten job taken writes lengths place image) its = refl
-plain-event (Restarted job initiator code checkpoint) its = refl
-plain-event (Held job code writes lengths) its = refl
-plain-event (Ended job ending) its = refl
-plain-event _ its = absurd (false≢true its)
+-- what a unit tells is settled where it asks nobody
+pub settled-so : (plan : Plan) → IsUnitPlan plan → is_ask plan ≡ false → IsSettledPlan plan
+settled-so (Work job) shape settled = absurd shape
+settled-so (Pass job reply) shape settled = absurd shape
+settled-so (Take job) shape settled = absurd shape
+settled-so (Ask inquiry) shape settled = absurd (true≢false settled)
+settled-so _ shape settled = tt
 
-pub plain-so : (plan : Plan) → IsUnitPlan plan → is_ask plan ≡ false → IsPlainTold plan
-plain-so (Rest reply) shape settled = tt
-plain-so (Tell reply event) shape settled = plain-event event shape
-plain-so (Work job) shape settled = absurd shape
-plain-so (Pass job reply) shape settled = absurd shape
-plain-so (Take job) shape settled = absurd shape
-plain-so (Ask inquiry) shape settled = absurd (true≢false settled)
-plain-so (Wait job code) shape settled = tt
+-- and no run goes on with an earlier one by it
+event-knows : (tables : TablesModel) (points : List PointView) (event : Event) → is_unit_event event ≡ true → KnowsItsPoint event tables points
+event-knows tables points (Selected job initiator earlier step id) its = absurd (false≢true its)
+event-knows tables points _ its = tt
+
+pub unit-knows : (tables : TablesModel) (points : List PointView) (plan : Plan) → IsUnitPlan plan → PlanKnows tables points plan
+unit-knows tables points (Tell reply event) shape = event-knows tables points event shape
+unit-knows tables points _ shape = tt
 
 -- and it ends no step of a run that was running when the system failed
 leaves-so : (failed : List FailedRun) (event : Event) → is_unit_event event ≡ true → LeavesLeft event failed

@@ -17,7 +17,8 @@ use Rattle.ckr_desk_memory.specs.Model.RewriteCounts.{may_count}
 use Rattle.ckr_jcl.specs.declared.deck.Job.{Job}
 use Rattle.ckr_desk_memory.specs.EventChanges.{is_of_run}
 use Rattle.ckr_desk_memory.specs.Plans.{IsSpelledPlan, told_by}
-use Rattle.ckr_desk_memory.specs.Replay.{deck_of, goes_on, is_run_by}
+use Rattle.ckr_desk_memory.specs.Replay.{deck_of, goes_on, has_few_digits}
+use Rattle.ckr_desk.proofs.Turns.Events.{small-digits}
 use Rattle.ckr_desk_memory.specs.View.{RunningStepView, jobs_of, running_of}
 use Rattle.ckr_desk_refines.proofs.Durable.Units.{committed-kept}
 use Rattle.ckr_desk_refines.proofs.Entries.Images.{keeping-kept}
@@ -45,7 +46,6 @@ use Rattle.ckr_steps.specs.declared.step_run.Worked.TheVariants.{Abend, Rewrite,
 use Rattle.ckr_steps.specs.Writes.{Keeps}
 use Rattle.ckr_desk_store.specs.OpenImages.{Opens, event_records}
 use Rattle.ckr_desk_store.specs.State.{StoreView}
-use Rattle.ckr_desk_memory.specs.ForwardEvents.{is_forward_event}
 use Rattle.ckr_desk_refines.proofs.Events.Commits.{committed-moves}
 use Rattle.ckr_desk_turn.proofs.Codes.{by-verdict}
 use Rattle.ckr_desk_turn.specs.Codes.{CodePlaceModel, initiator_of, inquiry_of, running_reached}
@@ -75,15 +75,13 @@ use Rattle.ckr_desk.proofs.Images.NextEvent.{deck-none, office-same}
 use Rattle.ckr_desk.proofs.Images.Entries.{behind-kept as entries-behind, behind-same as entries-behind-same, checks-then, kept-has, laid-then, same-has, tables-behind}
 use Rattle.ckr_desk.proofs.Images.Soundness.{kept-before, kept-behind}
 use Rattle.ckr_desk.proofs.Images.WrittenRecord.{TellsRecord, told-lacking, told-written}
-use Rattle.ckr_desk.proofs.Turns.PlainEvents.{decided-plain, told-plain}
 use Rattle.ckr_desk.proofs.Trust.Events.{IsBehind, IsComing, desk-behind, trusted-behind}
-use Rattle.ckr_desk.proofs.Turns.Events.{small-runs}
 use Rattle.ckr_desk.proofs.Trust.Conditions.{goes-out, shows-in, worked-out}
 use Rattle.ckr_desk.specs.Requests.{has_room, room_behind}
 use Rattle.ckr_desk.specs.Calls.{HasGoneOn, IsLeftBy, IsSettledBehind, may_keep}
 use Rattle.ckr_desk.specs.Rewrite.{IsWrittenBy, LacksAtMost, OpensSame}
 use Rattle.ckr_desk.specs.Turn.{asks, behind_turn, event_of_turn, reply_of}
-use Rattle.ckr_desk.specs.Units.{HasDoneUnit, HasGoneBehind, HasWrittenBehind, IsPlainPlan, IsLeftBehind, IsLeftByUnit, IsLeftRewriting, StemsFromUnit}
+use Rattle.ckr_desk.specs.Units.{HasDoneUnit, HasGoneBehind, HasWrittenBehind, IsLeftBehind, IsLeftByUnit, IsLeftRewriting, StemsFromUnit}
 use Rattle.ckr_desk.specs.Opening.{behind_records}
 use Rattle.ckr_desk.specs.Soundness.{HasKept, IsTrusted, events_in, last_on, office_on, state_of}
 use Rattle.ckr_desk.specs.State.{RoomyDesk, DeskView, need_of}
@@ -94,15 +92,6 @@ stopped-writes None step = refl
 stopped-writes (Some code) step = refl
 
 -- what is said of a plan with an event is said of the event
-plain-in : (plan : Plan) → IsPlainPlan plan → (event : Event) → event_in plan ≡ Some event → is_forward_event event ≡ true
-plain-in (Rest reply) plain event is = absurd (some-not-none event (sym is))
-plain-in (Tell reply told) plain event is = ap is_forward_event (sym (same_Some told event is)) ∙ plain
-plain-in (Work job) plain event is = absurd (some-not-none event (sym is))
-plain-in (Pass job reply) plain event is = absurd (some-not-none event (sym is))
-plain-in (Take job) plain event is = absurd (some-not-none event (sym is))
-plain-in (Ask inquiry) plain event is = absurd (some-not-none event (sym is))
-plain-in (Wait job code) plain event is = absurd (some-not-none event (sym is))
-
 spelled-in : (plan : Plan) → IsSpelledPlan plan → (event : Event) → event_in plan ≡ Some event → IsSpelled event
 spelled-in (Rest reply) shape event is = absurd (some-not-none event (sym is))
 spelled-in (Tell reply told) shape event is = subst IsSpelled (same_Some told event is) shape.0
@@ -413,11 +402,6 @@ module _ {D : Type 0} (told : Type 0) (content : D → List ℕ) (may_leave : D 
       abbrev then : DeskModel
       then = (work_of answer run desk).desk
 
-      unit-plain : is_forward_event event ≡ true
-      unit-plain =
-          plain-in plan (subst IsPlainPlan (sym plan-so)
-          (decided-plain answer (told_by layout office.tables row (running_of office.tables moved) done.worked) (told-plain layout office.tables row (running_of office.tables moved) done.worked))) event is
-
       spelled-so : IsSpelled event
       spelled-so = spelled-in plan shape event is
 
@@ -502,10 +486,10 @@ module _ {D : Type 0} (told : Type 0) (content : D → List ℕ) (may_leave : D 
       coming might = record {
         is_event = spelled-so.event;
         goes = subst (λ (d : Option Job). goes_on layout old.jobs.tables.desk event d ≡ true) (sym none-decked)
-            (and_from (is_forward_event event) _ unit-plain (and_from (is_run_by event None) _ (small-runs event spelled-so.small)
+            (and_from (has_few_digits event) _ (small-digits event spelled-so.small)
             (ap (λ (tables : TablesModel). follows layout tables event None && may_count event tables.sets) (sym done.tables)
             ∙ ap (λ (l : Layout). follows l mid.jobs.tables.desk event None && may_count event mid.jobs.tables.desk.sets) (sym layout-same)
-            ∙ might)));
+            ∙ might));
         next = subst (λ (d : Option Job). IsNext layout office (event, d)) (sym none-decked) ensues.comes;
         office = ensues.office ∙ ap (λ (d : Option Job). office_after (event, d) office) (sym none-decked);
         layout_is = ensues.layout_is;

@@ -1,7 +1,7 @@
 use Rattle.std.proofs.Common.{◌≡◌, ◌≤◌, ◌∙◌, arith, ap, subst, sym, List, None, IfErr, IfOk, OnOk}
 use Rattle.ckr_desk_memory.specs.Plans.{HasDue, IsSpelledPlan, IsToldReply}
 use Rattle.ckr_desk_memory.specs.OwnSteps.{PlanCommits, PlanFollows, PlanLeaves}
-use Rattle.ckr_desk_memory.specs.View.{RunningStepView, jobs_of}
+use Rattle.ckr_desk_memory.specs.View.{PointView, RunningStepView, jobs_of}
 use Rattle.ckr_points.specs.Rows.{TablesModel}
 use Rattle.ckr_volumes.specs.declared.layout.Layout.{Layout}
 use Rattle.ckr_console.specs.Answering.{restart_answer}
@@ -16,17 +16,19 @@ use Rattle.ckr_desk.proofs.Turns.Checkpoints.{turned-past}
 use Rattle.ckr_desk.proofs.Turns.Preparation.{as-before, came-of-disk, planned-before, same-unchanged, turned-before, turned-not}
 use Rattle.ckr_desk.proofs.Turns.Answers.{given-stands, pass-quiet, stands-as, take-quiet, unasked, unasked-stands}
 use Rattle.ckr_desk.proofs.Turns.Decided.{decided-commits, decided-follows, decided-leaves}
-use Rattle.ckr_desk.proofs.Turns.Plans.{behind-takes, go-after, go-asks, go-cause, go-fits, go-kept, go-may-fail, go-of-disk, go-reply, go-told, go-trusted, go-unsettled, if-ok, of-disk-stays, plain-told, rests-so, unsettled-stays, unsettled-takes}
+use Rattle.ckr_desk.proofs.Turns.Plans.{behind-takes, decided-knows, decided-stands, go-after, go-asks, go-cause, go-fits, go-kept, go-may-fail, go-of-disk, go-reply, go-told, go-trusted, go-unsettled, if-ok, of-disk-stays, settled-so, rests-so, unsettled-stays, unsettled-takes}
 use Rattle.ckr_desk.proofs.Calls.Stops.{now-left, opens-so, same-left}
 use Rattle.ckr_desk.proofs.Trust.Counts.{book-short}
+use Rattle.ckr_desk.proofs.Trust.Sameness.{state-same}
 use Rattle.ckr_desk.proofs.Units.Preparation.{err-is}
+use Rattle.ckr_desk.specs.Continuation.{PlanKnows, PlanStandsAt}
 use Rattle.ckr_desk.specs.Requests.{MayFail, TellsNumbers}
 use Rattle.ckr_desk.specs.Rewrite.{OpensSame}
 use Rattle.ckr_desk.specs.Soundness.{state_of}
-use Rattle.ckr_desk.specs.State.{DeskView}
+use Rattle.ckr_desk.specs.State.{DeskView, RoomyDesk}
 use Rattle.ckr_desk.specs.Turn.{AnswerStands, AnswerStandsBy, asks, event_of_turn, reply_of}
 use Rattle.ckr_desk.specs.NoChange.{StaysBy}
-use Rattle.ckr_desk.specs.Units.{HasTurned, IsPlainTold, IsPlanned}
+use Rattle.ckr_desk.specs.Units.{HasTurned, IsSettledPlan, IsPlanned}
 use Rattle.ckr_desk.proofs.desk.Desk.carry_out.Goals as goal
 
 pub work-requires-clause-due : goal.work-requires-clause-due
@@ -35,10 +37,18 @@ work-requires-clause-due g c κs within = subst (HasDue c.args.self.now.jobs) c.
 pub checkpoint-requires-clause-due : goal.checkpoint-requires-clause-due
 checkpoint-requires-clause-due g c κs within = subst (HasDue c.args.self.now.jobs) c.in-Take.is c.requires.due
 
-pub go_on-requires-clause-plain : goal.go_on-requires-clause-plain
-go_on-requires-clause-plain g c κs within =
-    subst IsPlainTold (sym c.in_ok-plan-in_default.ensures.decided)
-    (plain-told (restart_answer c.args.self.now.operator) c.args.plan c.requires.plain (rests-so c.args.plan c.in_default.not-Work c.in_default.not-Pass c.in_default.not-Take))
+pub go_on-requires-clause-settled : goal.go_on-requires-clause-settled
+go_on-requires-clause-settled g c κs within =
+    subst IsSettledPlan (sym c.in_ok-plan-in_default.ensures.decided)
+    (settled-so (restart_answer c.args.self.now.operator) c.args.plan (rests-so c.args.plan c.in_default.not-Work c.in_default.not-Pass c.in_default.not-Take))
+
+pub go_on-requires-clause-knows : goal.go_on-requires-clause-knows
+go_on-requires-clause-knows g c κs within =
+    let mid = c.settle.new.self in
+    subst (PlanKnows mid.jobs.tables.desk mid.jobs.points) (sym c.in_ok-plan-in_default.ensures.decided)
+    (decided-knows mid.jobs.tables.desk mid.jobs.points (restart_answer c.args.self.now.operator) c.args.plan
+    (subst (λ (tables : TablesModel). PlanKnows tables mid.jobs.points c.args.plan) (sym c.settle.ensures.jobs.tables)
+    (subst (λ (points : List PointView). PlanKnows c.args.self.now.jobs.tables.desk points c.args.plan) (sym c.settle.ensures.jobs.points) c.requires.knows)))
 
 pub go_on-requires-clause-follows : goal.go_on-requires-clause-follows
 go_on-requires-clause-follows g c κs within =
@@ -73,7 +83,7 @@ returns-in_err-plan-in_default g c =
     let mid = c.settle.new.self in
     let plan = c.args.plan in
     let answer = restart_answer now.operator in
-    let plain = plain-told answer plan c.requires.plain (rests-so plan c.in_default.not-Work c.in_default.not-Pass c.in_default.not-Take) in
+    let settled = settled-so answer plan (rests-so plan c.in_default.not-Work c.in_default.not-Pass c.in_default.not-Take) in
     let store = c.settle.ensures.store in
     let before = as-before d.content d.may_leave now mid d.told (same-unchanged d.content d.may_leave now mid c.settle.ensures.jobs store) in
     let sized = ap (λ (s : StoreView g.row.D.Denot). d.size s.disk) store in
@@ -87,15 +97,15 @@ returns-in_err-plan-in_default g c =
     let is = err-is result error c.from_residual.ensures.1 in
     let stays = unsettled-stays d.content d.may_leave d.faults now mid answer plan error cause in
     record {
-      turned = λ turn p.
+      turned = λ turn p at.
           subst (HasTurned d.told d.content d.may_leave d.moment d.left_since d.size turn answer now mid) (sym is)
           (turned-not d.told d.content d.may_leave d.moment d.left_since d.size now mid before sized since turn answer p.trusted error
-          (go-unsettled d.told d.content d.may_leave d.moment d.left_since d.size d.faults now p.trusted turn p.its answer plan mid error p.planned plain cause)
-          (unsettled-takes d.told d.content d.may_leave d.moment d.left_since d.size d.faults now p.trusted turn p.its answer plan mid error (book-short now.store.layout (d.size now.store.disk) sound.header) p.planned plain cause));
+          (go-unsettled d.told d.content d.may_leave d.moment d.left_since d.size d.faults now p.trusted turn p.its answer plan mid error p.planned settled cause)
+          (unsettled-takes d.told d.content d.may_leave d.moment d.left_since d.size d.faults now p.trusted turn p.its answer plan mid error (book-short now.store.layout (d.size now.store.disk) sound.header) p.planned settled cause));
       answered = λ turn p.
           subst (AnswerStands (asks (state_of d.content now) turn answer) now.operator mid.operator) (sym is)
           (subst (λ b. AnswerStandsBy b now.operator mid.operator error)
-          (sym (go-asks d.told d.content d.may_leave d.moment d.left_since d.size d.faults now p.trusted turn p.its answer (decide answer plan) (ap (decide answer) p.planned, plain) ∙ ap is_ask p.planned))
+          (sym (go-asks d.told d.content d.may_leave d.moment d.left_since d.size d.faults now p.trusted turn p.its answer (decide answer plan) (ap (decide answer) p.planned, settled) ∙ ap is_ask p.planned))
           c.in_err-plan-in_default.ensures.answered);
       spelled = subst (λ r. IfOk r IsToldReply) (sym is) tt;
       is_open = subst (λ r. OnOk r (mid.store.fault ≡ None)) (sym is) tt;
@@ -117,8 +127,8 @@ returns-in_ok-plan-in_default g c =
     let its = c.in_ok-plan-in_default.plan in
     let shape = c.in_ok-plan-in_default.ensures.spelled in
     let decided_so = c.in_ok-plan-in_default.ensures.decided in
-    let plain = plain-told answer plan c.requires.plain (rests-so plan c.in_default.not-Work c.in_default.not-Pass c.in_default.not-Take) in
-    let plain_its = subst IsPlainTold (sym decided_so) plain in
+    let settled = settled-so answer plan (rests-so plan c.in_default.not-Work c.in_default.not-Pass c.in_default.not-Take) in
+    let settled_its = subst IsSettledPlan (sym decided_so) settled in
     let store = c.settle.ensures.store in
     let before = as-before d.content d.may_leave now mid d.told (same-unchanged d.content d.may_leave now mid c.settle.ensures.jobs store) in
     let sized = ap (λ (s : StoreView g.row.D.Denot). d.size s.disk) store in
@@ -131,16 +141,22 @@ returns-in_ok-plan-in_default g c =
     let opens = opens-so d.told d.content d.may_leave d.moment d.left_since d.size mid sound_then (ap (λ (s : StoreView g.row.D.Denot). s.fault) store ∙ c.requires.is_open) in
     let of_disk = if-err (go-of-disk d.faults mid new its) c.go_on.result c.go_on.ensures.cause in
     record {
-      turned = λ turn p.
+      turned = λ turn p at.
           let q = planned-before d.told d.content d.may_leave d.moment d.left_since d.size now mid before sized since turn plan p in
-          let comes : (decide answer (plan_of mid.store.layout (jobs_of mid.jobs) turn) ≡ its) × IsPlainTold its = (ap (decide answer) q.planned ∙ sym decided_so, plain_its) in
+          let comes : (decide answer (plan_of mid.store.layout (jobs_of mid.jobs) turn) ≡ its) × IsSettledPlan its = (ap (decide answer) q.planned ∙ sym decided_so, settled_its) in
+          let stands : PlanStandsAt (state_of d.content mid).desk mid.jobs.points its =
+          subst (PlanStandsAt (state_of d.content mid).desk mid.jobs.points) (sym decided_so)
+          (decided-stands (state_of d.content mid).desk mid.jobs.points answer plan
+          (subst (λ (s : RoomyDesk). PlanStandsAt s.desk mid.jobs.points plan) (sym (state-same d.told d.content d.may_leave now mid before))
+          (subst (λ (points : List PointView). PlanStandsAt (state_of d.content now).desk points plan) (sym c.settle.ensures.jobs.points) at)))
+          in
           turned-before d.told d.content d.may_leave d.moment d.left_since d.size now mid before sized since turn answer p.trusted new c.go_on.result
           (record {
             reply = if-ok (λ reply is. is ∙ go-reply d.told d.content d.may_leave d.moment d.left_since d.size d.faults mid q.trusted turn q.its answer its comes) c.go_on.result c.go_on.ensures.reply;
             fits = on-ok (go-fits d.told d.content d.may_leave d.moment d.left_since d.size d.faults mid q.trusted turn q.its answer its new comes shape) c.go_on.result c.go_on.ensures.gone;
-            after = on-ok-both (go-after d.told d.content d.may_leave d.moment d.left_since d.size d.faults mid q.trusted turn q.its answer its new comes shape c.go_on.ensures.layout) c.go_on.result c.go_on.ensures.gone c.go_on.ensures.settled;
+            after = on-ok-both (go-after d.told d.content d.may_leave d.moment d.left_since d.size d.faults mid q.trusted turn q.its answer its new comes stands shape c.go_on.ensures.layout) c.go_on.result c.go_on.ensures.gone c.go_on.ensures.settled;
             events = on-ok (go-told d.told d.content d.may_leave d.moment d.left_since d.size d.faults mid q.trusted turn q.its answer its new comes) c.go_on.result c.go_on.ensures.gone;
-            trusted = on-ok-both (go-trusted d.told d.content d.may_leave d.moment d.left_since d.size d.faults mid q.trusted turn q.its answer its new comes shape c.go_on.ensures.layout) c.go_on.result c.go_on.ensures.gone c.go_on.ensures.settled;
+            trusted = on-ok-both (go-trusted d.told d.content d.may_leave d.moment d.left_since d.size d.faults mid q.trusted turn q.its answer its new comes stands shape c.go_on.ensures.layout) c.go_on.result c.go_on.ensures.gone c.go_on.ensures.settled;
             cause = if-err (λ error not. go-cause d.told d.content d.may_leave d.moment d.left_since d.size d.faults mid q.trusted turn q.its answer its new error not) c.go_on.result c.go_on.ensures.cause;
             takes = if-err (λ error not. behind-takes d.faults mid new its (reply_of (state_of d.content mid) turn answer) (event_of_turn (state_of d.content mid) turn answer) (asks (state_of d.content mid) turn answer) error not) c.go_on.result c.go_on.ensures.cause;
             kept = came-of-disk d.content d.moment d.left_since d.size mid new _ c.go_on.result of_disk
@@ -148,7 +164,7 @@ returns-in_ok-plan-in_default g c =
           });
       answered = λ turn p.
           stands-as (is_ask plan) (asks (state_of d.content now) turn answer) now.operator new.operator c.go_on.result
-          (go-asks d.told d.content d.may_leave d.moment d.left_since d.size d.faults now p.trusted turn p.its answer (decide answer plan) (ap (decide answer) p.planned, plain) ∙ ap is_ask p.planned)
+          (go-asks d.told d.content d.may_leave d.moment d.left_since d.size d.faults now p.trusted turn p.its answer (decide answer plan) (ap (decide answer) p.planned, settled) ∙ ap is_ask p.planned)
           (given-stands (is_ask plan) now.operator new.operator (c.go_on.ensures.operator ∙ c.in_ok-plan-in_default.ensures.answered) c.go_on.result of_disk);
       spelled = c.go_on.ensures.spelled;
       is_open = c.go_on.ensures.is_open;
@@ -171,7 +187,7 @@ returns-in-Pass g c =
     let sound = subst (λ (s : DeskView g.row.D.Denot). IsSound d.content d.may_leave d.size s.store) c.self.view_is c.layout-layout.ensures.sound in
     let since = now-left d.told d.content d.may_leave d.moment d.left_since d.size now sound c.requires.is_open (laws.only_now now.store.disk) in
     record {
-      turned = λ turn p.
+      turned = λ turn p at.
           turned-past d.told d.content d.may_leave d.moment d.left_since d.size now turn (restart_answer now.operator) c.in-Pass.job c.in-Pass.reply new.jobs new.operator c.pass.ensures.passed
           (subst (IsPlanned d.told d.content d.may_leave now turn) c.in-Pass.is p) new.store store since;
       answered = λ turn p.
@@ -190,13 +206,13 @@ returns-in-Pass g c =
 -- ---- a unit or a checkpoint
 
 pub returns-in-Work-clause-turned : goal.returns-in-Work-clause-turned
-returns-in-Work-clause-turned g c = λ turn p. c.work.ensures.turned turn (subst (IsPlanned g.D.Disk.told g.D.Disk.content g.D.Disk.may_leave c.args.self.now turn) c.in-Work.is p)
+returns-in-Work-clause-turned g c = λ turn p at. c.work.ensures.turned turn (subst (IsPlanned g.D.Disk.told g.D.Disk.content g.D.Disk.may_leave c.args.self.now turn) c.in-Work.is p)
 
 pub returns-in-Work-clause-answered : goal.returns-in-Work-clause-answered
 returns-in-Work-clause-answered g c = λ turn p. c.work.ensures.answered turn (subst (IsPlanned g.D.Disk.told g.D.Disk.content g.D.Disk.may_leave c.args.self.now turn) c.in-Work.is p)
 
 pub returns-in-Take-clause-turned : goal.returns-in-Take-clause-turned
-returns-in-Take-clause-turned g c = λ turn p.
+returns-in-Take-clause-turned g c = λ turn p at.
     c.checkpoint.ensures.turned turn (restart_answer c.args.self.now.operator) (subst (IsPlanned g.D.Disk.told g.D.Disk.content g.D.Disk.may_leave c.args.self.now turn) c.in-Take.is p)
 
 pub returns-in-Take-clause-answered : goal.returns-in-Take-clause-answered

@@ -4,12 +4,11 @@ use Rattle.std.specs.Rc.{rc_value}
 use Rattle.std.proofs.lemmas.Bool.{and_from}
 use Rattle.ckr_book.specs.Book.{IsBeforeOrAfter, room_of}
 use Rattle.ckr_events.specs.Event.{spelling}
-use Rattle.ckr_desk_memory.proofs.ForwardEvents.{forward-knows}
 use Rattle.ckr_desk_memory.proofs.Invariant.{numbered-behind}
 use Rattle.ckr_desk_memory.proofs.RewriteCounts.{counted-may}
 use Rattle.ckr_desk_memory.specs.Model.RewriteCounts.{may_count}
 use Rattle.ckr_desk_memory.specs.OwnSets.{CommitsItsOwn}
-use Rattle.ckr_desk_memory.specs.OwnSteps.{LeavesLeft}
+use Rattle.ckr_desk_memory.specs.OwnSteps.{KnowsItsPoint, LeavesLeft}
 use Rattle.ckr_desk_turn.specs.Queue.{AreNumbered}
 use Rattle.ckr_outside.specs.Disk.{EachSince, SameOutside}
 use Rattle.ckr_points.specs.Rows.{TablesModel}
@@ -91,7 +90,7 @@ invariant_of-self-2 g c =
     subst (λ (l : Layout). AreKept l c.keep.new.self) (sym (ap (λ s. s.layout) c.in_ok-append.ensures.kept ∙ ap (λ s. s.layout) c.in_ok-sync.ensures.kept))
     (record {
       are = c.keep.ensures.jobs layout kept.are follow;
-      own = c.keep.ensures.own layout kept.are kept.own follow (forward-knows event jobs.tables.desk jobs.points c.requires.plain) (subst (λ (s : DeskView g.row.D.Denot). CommitsItsOwn event s.jobs.tables.desk s.jobs.running) (sym c.self.view_is) c.requires.commits);
+      own = c.keep.ensures.own layout kept.are kept.own follow (subst (λ (s : DeskView g.row.D.Denot). KnowsItsPoint event s.jobs.tables.desk s.jobs.points) (sym c.self.view_is) c.requires.knows) (subst (λ (s : DeskView g.row.D.Denot). CommitsItsOwn event s.jobs.tables.desk s.jobs.running) (sym c.self.view_is) c.requires.commits);
       left = c.keep.ensures.left layout kept.are kept.left follow (subst (λ (s : DeskView g.row.D.Denot). LeavesLeft event s.jobs.failed) (sym c.self.view_is) c.requires.leaves);
       numbered = subst (λ (tables : TablesModel). AreNumbered 1 tables.runs) (sym c.keep.ensures.tables)
           (numbered-behind layout jobs.tables.desk event deck follow kept.numbered);

@@ -1,38 +1,35 @@
-use Rattle.std.proofs.Common.{◌∙◌, ap, refl, subst, sym}
+use Rattle.std.proofs.Common.{◌∙◌, find, ap, refl, subst, sym}
+use Rattle.ckr_console.specs.Answering.{restart_answer}
+use Rattle.ckr_desk_memory.specs.EventChanges.{is_point_of}
 use Rattle.ckr_desk_memory.specs.Plans.{NeedsRoom}
-use Rattle.ckr_desk_memory.specs.OwnSteps.{PlanFollows}
 use Rattle.ckr_desk_memory.specs.View.{jobs_of}
 use Rattle.ckr_desk_turn.specs.Invariant.{IsTurnOf}
 use Rattle.ckr_desk_turn.specs.Plans.{plan_of}
 use Rattle.ckr_volumes.specs.declared.layout.Layout.{Layout}
-use Rattle.ckr_desk.proofs.Turns.Preparation.{planned-before, turned-before, turned-not}
-use Rattle.ckr_desk.proofs.Turns.PlainEvents.{accepted-restartless, plan-plain, seen-restartless}
-use Rattle.ckr_desk.proofs.Turns.Answers.{stands-before}
-use Rattle.ckr_desk.proofs.Turns.Plans.{go-needs}
-use Rattle.ckr_console.specs.Answering.{restart_answer}
-use Rattle.ckr_desk.proofs.Units.Preparation.{err-is}
-use Rattle.ckr_desk.proofs.Calls.Stops.{now-left}
+use Rattle.ckr_desk.proofs.Calls.Stops.{now-left, read-left}
 use Rattle.ckr_desk.proofs.Layouts.{kept-stay}
-use Rattle.ckr_desk.proofs.Trust.Sameness.{IsAsBefore}
-use Rattle.ckr_desk.specs.State.{DeskView}
+use Rattle.ckr_desk.proofs.Trust.Sameness.{IsAsBefore, state-same}
+use Rattle.ckr_desk.proofs.Turns.Answers.{stands-before}
+use Rattle.ckr_desk.proofs.Turns.Plans.{go-needs, reading-fails, reading-takes}
+use Rattle.ckr_desk.proofs.Turns.Preparation.{planned-before, turned-before, turned-not, twice-stayed}
+use Rattle.ckr_desk.proofs.Units.Preparation.{err-is}
+use Rattle.ckr_desk.specs.Continuation.{PlanStandsAt}
+use Rattle.ckr_desk.specs.NoChange.{HaveStayed}
+use Rattle.ckr_desk.specs.Soundness.{state_of}
+use Rattle.ckr_desk.specs.State.{DeskView, RoomyDesk}
+use Rattle.ckr_desk.specs.Turn.{asks, event_of_turn, reply_of}
 use Rattle.ckr_desk.specs.Units.{HasTurned, IsPlanned}
 use Rattle.ckr_desk.specs.declared.error.DeskError.TheVariants.{NoMemory}
 use Rattle.ckr_desk.proofs.desk.Desk.planned_turn.Goals as goal
 
-pub returns-in_err-plan-clause-turned : goal.returns-in_err-plan-clause-turned
-returns-in_err-plan-clause-turned g c =
+pub returns-in_err-planned-clause-turned : goal.returns-in_err-planned-clause-turned
+returns-in_err-planned-clause-turned g c =
     let d = g.D.Disk in
     let old : DeskView g.row.D.Denot = record { store = c.self.inside.store; jobs = c.self.inside.jobs; operator = c.self.inside.console } in
     let mid : DeskView g.row.D.Denot = record { store = c.self.inside.store; jobs = c.plan.new.self; operator = c.self.inside.console } in
     let turn = c.args.turn in
-    let is : IsAsBefore d.told d.content d.may_leave old mid = record {
-      jobs = record { tables = c.plan.ensures.tables; running = c.plan.ensures.running; failed = c.plan.ensures.failed; points = c.plan.ensures.points };
-      layout = refl;
-      room = refl;
-      reads = refl;
-      none_new = λ image may. may;
-    }
-    in
+    let stayed : HaveStayed old.jobs mid.jobs = record { tables = c.plan.ensures.tables; running = c.plan.ensures.running; failed = c.plan.ensures.failed; points = λ run off. ap (find (is_point_of run)) c.plan.ensures.points } in
+    let is : IsAsBefore d.told d.content d.may_leave old mid = record { jobs = stayed; layout = refl; room = refl; reads = refl; none_new = λ image may. may } in
     let laws = g.met.D.Disk g.world.𝓛 g.world.𝓜 g.world.𝓡 ((λ s x. x), (λ x. x), (λ x. x), λ x. x) in
     let is_open = ap (λ (s : DeskView g.row.D.Denot). s.store.fault) c.self.view_is ∙ c.requires.is_open in
     let since = now-left d.told d.content d.may_leave d.moment d.left_since d.size old c.layout-layout.ensures.sound is_open (laws.only_now old.store.disk) in
@@ -42,84 +39,117 @@ returns-in_err-plan-clause-turned g c =
     subst (HasTurned d.told d.content d.may_leave d.moment d.left_since d.size turn (restart_answer old.operator) old mid) (sym (err-is c.from_residual.result NoMemory c.from_residual.ensures.1))
     (turned-not d.told d.content d.may_leave d.moment d.left_since d.size old mid is refl since turn (restart_answer old.operator) trusted NoMemory tt
     (go-needs d.told d.content d.may_leave d.moment d.left_since d.size d.faults old trusted turn its (restart_answer old.operator)
-    (plan-plain old.store.layout (jobs_of old.jobs) (seen-restartless old.jobs (accepted-restartless old.jobs.tables.desk c.self.invariant.are.rows)) turn (plan_of old.store.layout (jobs_of old.jobs) turn) refl)
-    (subst (λ (l : Layout). NeedsRoom (plan_of l (jobs_of c.self.inside.jobs) turn)) c.layout.ensures.layout c.in_err-plan.ensures.takes))))
+    (subst (λ (l : Layout). NeedsRoom (plan_of l (jobs_of c.self.inside.jobs) turn)) c.layout.ensures.layout c.in_err-planned.ensures.takes))))
 
-pub carry_out-requires-clause-plain : goal.carry_out-requires-clause-plain
-carry_out-requires-clause-plain g c κs within =
-    plan-plain _ (jobs_of c.self.inside.jobs) (seen-restartless c.self.inside.jobs (accepted-restartless c.self.inside.jobs.tables.desk c.self.invariant.are.rows)) c.args.turn c.in_ok-plan.plan
-    c.in_ok-plan.ensures.plan
-
-pub plan-requires-clause-turn : goal.plan-requires-clause-turn
-plan-requires-clause-turn g c =
-    subst (λ (l : Layout). IsTurnOf l c.args.turn) (sym c.layout.ensures.layout)
-    (subst (λ (s : DeskView g.row.D.Denot). IsTurnOf s.store.layout c.args.turn) (sym c.self.view_is) c.requires.initiator)
-
-pub carry_out-requires-clause-follows : goal.carry_out-requires-clause-follows
-carry_out-requires-clause-follows g c κs within =
-    subst (λ (l : Layout). PlanFollows l c.plan.new.self.tables.desk c.in_ok-plan.plan) c.layout.ensures.layout c.in_ok-plan.ensures.own
-
-pub carry_out-requires-clause-commits : goal.carry_out-requires-clause-commits
-carry_out-requires-clause-commits g c κs within = c.in_ok-plan.ensures.commits
-
-pub carry_out-requires-clause-leaves : goal.carry_out-requires-clause-leaves
-carry_out-requires-clause-leaves g c κs within = c.in_ok-plan.ensures.left
+pub returns-in_err-plan-clause-turned : goal.returns-in_err-plan-clause-turned
+returns-in_err-plan-clause-turned g c =
+    let d = g.D.Disk in
+    let old : DeskView g.row.D.Denot = record { store = c.self.inside.store; jobs = c.self.inside.jobs; operator = c.self.inside.console } in
+    let one : DeskView g.row.D.Denot = record { store = c.self.inside.store; jobs = c.plan.new.self; operator = c.self.inside.console } in
+    let mid : DeskView g.row.D.Denot = c.judged.new.self in
+    let turn = c.args.turn in
+    let stayed : HaveStayed old.jobs one.jobs = record { tables = c.plan.ensures.tables; running = c.plan.ensures.running; failed = c.plan.ensures.failed; points = λ run off. ap (find (is_point_of run)) c.plan.ensures.points } in
+    let is : IsAsBefore d.told d.content d.may_leave old mid = record {
+      jobs = twice-stayed old.jobs one.jobs mid.jobs stayed c.judged.ensures.jobs;
+      layout = c.judged.ensures.layout;
+      room = c.judged.ensures.room;
+      reads = c.judged.ensures.only_reads.same;
+      none_new = c.judged.ensures.only_reads.none_new;
+    }
+    in
+    let is_open = ap (λ (s : DeskView g.row.D.Denot). s.store.fault) c.self.view_is ∙ c.requires.is_open in
+    let since = read-left d.told d.content d.may_leave d.moment d.left_since d.size old mid.store.disk c.layout-layout.ensures.sound is_open c.judged.ensures.only_reads in
+    let its = subst (λ (s : DeskView g.row.D.Denot). IsTurnOf s.store.layout turn) (sym c.self.view_is) c.requires.initiator in
+    let error = c.in_err-plan.field-0.0 in
+    rw (← c.self.view_is)
+    (λ trusted.
+    subst (HasTurned d.told d.content d.may_leave d.moment d.left_since d.size turn (restart_answer old.operator) old mid) (sym (err-is c.from_residual-in_err-plan.result error c.from_residual-in_err-plan.ensures.1))
+    (turned-not d.told d.content d.may_leave d.moment d.left_since d.size old mid is c.judged.ensures.size since turn (restart_answer old.operator) trusted error
+    (reading-fails d.faults one.store mid.store (state_of d.content old).room (event_of_turn (state_of d.content old) turn (restart_answer old.operator)) error c.in_err-plan.ensures.cause)
+    (reading-takes (reply_of (state_of d.content old) turn (restart_answer old.operator)) (event_of_turn (state_of d.content old) turn (restart_answer old.operator)) (asks (state_of d.content old) turn (restart_answer old.operator)) error
+    (go-needs d.told d.content d.may_leave d.moment d.left_since d.size d.faults old trusted turn its (restart_answer old.operator)
+    (subst NeedsRoom (c.in_ok-planned.ensures.plan ∙ ap (λ (l : Layout). plan_of l (jobs_of c.self.inside.jobs) turn) c.layout.ensures.layout) c.in_err-plan.ensures.takes)))))
 
 pub returns-clause-turned : goal.returns-clause-turned
 returns-clause-turned g c =
     let d = g.D.Disk in
     let old : DeskView g.row.D.Denot = record { store = c.self.inside.store; jobs = c.self.inside.jobs; operator = c.self.inside.console } in
-    let mid : DeskView g.row.D.Denot = record { store = c.self.inside.store; jobs = c.plan.new.self; operator = c.self.inside.console } in
+    let one : DeskView g.row.D.Denot = record { store = c.self.inside.store; jobs = c.plan.new.self; operator = c.self.inside.console } in
+    let mid : DeskView g.row.D.Denot = c.judged.new.self in
     let turn = c.args.turn in
+    let stayed : HaveStayed old.jobs one.jobs = record { tables = c.plan.ensures.tables; running = c.plan.ensures.running; failed = c.plan.ensures.failed; points = λ run off. ap (find (is_point_of run)) c.plan.ensures.points } in
+    let first : IsAsBefore d.told d.content d.may_leave old one = record { jobs = stayed; layout = refl; room = refl; reads = refl; none_new = λ image may. may } in
+    let second : IsAsBefore d.told d.content d.may_leave one mid = record {
+      jobs = c.judged.ensures.jobs;
+      layout = c.judged.ensures.layout;
+      room = c.judged.ensures.room;
+      reads = c.judged.ensures.only_reads.same;
+      none_new = c.judged.ensures.only_reads.none_new;
+    }
+    in
     let is : IsAsBefore d.told d.content d.may_leave old mid = record {
-      jobs = record { tables = c.plan.ensures.tables; running = c.plan.ensures.running; failed = c.plan.ensures.failed; points = c.plan.ensures.points };
-      layout = refl;
-      room = refl;
-      reads = refl;
-      none_new = λ image may. may;
+      jobs = twice-stayed old.jobs one.jobs mid.jobs stayed c.judged.ensures.jobs;
+      layout = c.judged.ensures.layout;
+      room = c.judged.ensures.room;
+      reads = c.judged.ensures.only_reads.same;
+      none_new = c.judged.ensures.only_reads.none_new;
     }
     in
     let laws = g.met.D.Disk g.world.𝓛 g.world.𝓜 g.world.𝓡 ((λ s x. x), (λ x. x), (λ x. x), λ x. x) in
     let is_open = ap (λ (s : DeskView g.row.D.Denot). s.store.fault) c.self.view_is ∙ c.requires.is_open in
-    let since = now-left d.told d.content d.may_leave d.moment d.left_since d.size old c.layout-layout.ensures.sound is_open (laws.only_now old.store.disk) in
+    let at_once = now-left d.told d.content d.may_leave d.moment d.left_since d.size old c.layout-layout.ensures.sound is_open (laws.only_now old.store.disk) in
+    let since = read-left d.told d.content d.may_leave d.moment d.left_since d.size old mid.store.disk c.layout-layout.ensures.sound is_open c.judged.ensures.only_reads in
     rw (← c.self.view_is)
     (λ trusted.
-    let p : IsPlanned d.told d.content d.may_leave old turn c.in_ok-plan.plan = record {
+    let p : IsPlanned d.told d.content d.may_leave old turn c.in_ok-planned.planned = record {
       trusted = trusted;
       its = subst (λ (s : DeskView g.row.D.Denot). IsTurnOf s.store.layout turn) (sym c.self.view_is) c.requires.initiator;
-      planned = ap (λ (l : Layout). plan_of l (jobs_of c.self.inside.jobs) turn) (sym c.layout.ensures.layout) ∙ sym c.in_ok-plan.ensures.plan;
+      planned = ap (λ (l : Layout). plan_of l (jobs_of c.self.inside.jobs) turn) (sym c.layout.ensures.layout) ∙ sym c.in_ok-planned.ensures.plan;
     }
     in
-    turned-before d.told d.content d.may_leave d.moment d.left_since d.size old mid is refl since turn (restart_answer old.operator) trusted c.carry_out.new.self c.carry_out.result
-    (c.carry_out.ensures.turned turn (planned-before d.told d.content d.may_leave d.moment d.left_since d.size old mid is refl since turn c.in_ok-plan.plan p)))
+    let there = c.in_ok-plan.ensures.trusted turn (planned-before d.told d.content d.may_leave d.moment d.left_since d.size old one first refl at_once turn c.in_ok-planned.planned p) in
+    turned-before d.told d.content d.may_leave d.moment d.left_since d.size old mid is c.judged.ensures.size since turn (restart_answer old.operator) trusted c.carry_out.new.self c.carry_out.result
+    (subst (λ o. HasTurned d.told d.content d.may_leave d.moment d.left_since d.size turn (restart_answer o) mid c.carry_out.new.self c.carry_out.result) c.judged.ensures.operator
+    (c.carry_out.ensures.turned turn
+    (subst (IsPlanned d.told d.content d.may_leave mid turn) (sym there.same)
+    (planned-before d.told d.content d.may_leave d.moment d.left_since d.size old mid is c.judged.ensures.size since turn c.in_ok-planned.planned p))
+    (subst (PlanStandsAt (state_of d.content mid).desk mid.jobs.points) (sym there.same)
+    (subst (λ (s : RoomyDesk). PlanStandsAt s.desk mid.jobs.points c.in_ok-planned.planned) (sym (state-same d.told d.content d.may_leave one mid second)) there.point)))))
 
 pub returns-clause-answered : goal.returns-clause-answered
 returns-clause-answered g c =
     let d = g.D.Disk in
     let old : DeskView g.row.D.Denot = record { store = c.self.inside.store; jobs = c.self.inside.jobs; operator = c.self.inside.console } in
-    let mid : DeskView g.row.D.Denot = record { store = c.self.inside.store; jobs = c.plan.new.self; operator = c.self.inside.console } in
+    let one : DeskView g.row.D.Denot = record { store = c.self.inside.store; jobs = c.plan.new.self; operator = c.self.inside.console } in
+    let mid : DeskView g.row.D.Denot = c.judged.new.self in
     let turn = c.args.turn in
+    let stayed : HaveStayed old.jobs one.jobs = record { tables = c.plan.ensures.tables; running = c.plan.ensures.running; failed = c.plan.ensures.failed; points = λ run off. ap (find (is_point_of run)) c.plan.ensures.points } in
+    let first : IsAsBefore d.told d.content d.may_leave old one = record { jobs = stayed; layout = refl; room = refl; reads = refl; none_new = λ image may. may } in
     let is : IsAsBefore d.told d.content d.may_leave old mid = record {
-      jobs = record { tables = c.plan.ensures.tables; running = c.plan.ensures.running; failed = c.plan.ensures.failed; points = c.plan.ensures.points };
-      layout = refl;
-      room = refl;
-      reads = refl;
-      none_new = λ image may. may;
+      jobs = twice-stayed old.jobs one.jobs mid.jobs stayed c.judged.ensures.jobs;
+      layout = c.judged.ensures.layout;
+      room = c.judged.ensures.room;
+      reads = c.judged.ensures.only_reads.same;
+      none_new = c.judged.ensures.only_reads.none_new;
     }
     in
     let laws = g.met.D.Disk g.world.𝓛 g.world.𝓜 g.world.𝓡 ((λ s x. x), (λ x. x), (λ x. x), λ x. x) in
     let is_open = ap (λ (s : DeskView g.row.D.Denot). s.store.fault) c.self.view_is ∙ c.requires.is_open in
-    let since = now-left d.told d.content d.may_leave d.moment d.left_since d.size old c.layout-layout.ensures.sound is_open (laws.only_now old.store.disk) in
+    let at_once = now-left d.told d.content d.may_leave d.moment d.left_since d.size old c.layout-layout.ensures.sound is_open (laws.only_now old.store.disk) in
+    let since = read-left d.told d.content d.may_leave d.moment d.left_since d.size old mid.store.disk c.layout-layout.ensures.sound is_open c.judged.ensures.only_reads in
     rw (← c.self.view_is)
     (λ trusted.
-    let p : IsPlanned d.told d.content d.may_leave old turn c.in_ok-plan.plan = record {
+    let p : IsPlanned d.told d.content d.may_leave old turn c.in_ok-planned.planned = record {
       trusted = trusted;
       its = subst (λ (s : DeskView g.row.D.Denot). IsTurnOf s.store.layout turn) (sym c.self.view_is) c.requires.initiator;
-      planned = ap (λ (l : Layout). plan_of l (jobs_of c.self.inside.jobs) turn) (sym c.layout.ensures.layout) ∙ sym c.in_ok-plan.ensures.plan;
+      planned = ap (λ (l : Layout). plan_of l (jobs_of c.self.inside.jobs) turn) (sym c.layout.ensures.layout) ∙ sym c.in_ok-planned.ensures.plan;
     }
     in
-    stands-before d.told d.content d.may_leave old mid c.carry_out.new.self is refl turn c.carry_out.result
-    (c.carry_out.ensures.answered turn (planned-before d.told d.content d.may_leave d.moment d.left_since d.size old mid is refl since turn c.in_ok-plan.plan p)))
+    let there = c.in_ok-plan.ensures.trusted turn (planned-before d.told d.content d.may_leave d.moment d.left_since d.size old one first refl at_once turn c.in_ok-planned.planned p) in
+    stands-before d.told d.content d.may_leave old mid c.carry_out.new.self is c.judged.ensures.operator turn c.carry_out.result
+    (c.carry_out.ensures.answered turn
+    (subst (IsPlanned d.told d.content d.may_leave mid turn) (sym there.same)
+    (planned-before d.told d.content d.may_leave d.moment d.left_since d.size old mid is c.judged.ensures.size since turn c.in_ok-planned.planned p))))
 
 pub invariant_of-self : goal.invariant_of-self
 invariant_of-self g c =

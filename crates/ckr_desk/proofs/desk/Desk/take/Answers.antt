@@ -3,14 +3,13 @@ use Rattle.ckr_book.specs.Book.{room_of}
 use Rattle.ckr_desk_memory.specs.Model.RewriteCounts.{may_count}
 use Rattle.ckr_desk_memory.specs.Invariant.{IsAnyAccepted}
 use Rattle.ckr_desk_memory.specs.OwnSets.{CommitsItsOwn}
-use Rattle.ckr_desk_memory.specs.OwnSteps.{LeavesLeft}
+use Rattle.ckr_desk_memory.specs.OwnSteps.{KnowsItsPoint, LeavesLeft}
 use Rattle.ckr_desk_memory.specs.Plans.{IsToldReply}
 use Rattle.ckr_desk_memory.specs.Preparation.{IsPrepared}
 use Rattle.ckr_desk_memory.specs.View.{JobsView}
 use Rattle.ckr_events.specs.declared.event.Event.{Event}
 use Rattle.ckr_points.specs.Follows.{follows}
 use Rattle.ckr_points_tables.specs.Invariant.{MaySubmit}
-use Rattle.ckr_desk_memory.specs.ForwardEvents.{is_forward_event}
 use Rattle.ckr_volumes.specs.declared.layout.Layout.{Layout}
 use Rattle.ckr_desk.specs.declared.preparation.Ready.{Ready}
 use Rattle.ckr_desk.specs.Preparation.{IsReady}
@@ -31,8 +30,8 @@ ready-same event old mid ready jobs room is = record {
   prepared = subst (λ (j : JobsView). IsPrepared j event None ready.prepared) (sym jobs) is.prepared;
 }
 
-pub enter-requires-clause-plain : goal.enter-requires-clause-plain
-enter-requires-clause-plain g c κs within = ap is_forward_event c.requires.attempt.its.of.event
+pub enter-requires-clause-knows : goal.enter-requires-clause-knows
+enter-requires-clause-knows g c κs within = subst (λ (e : Event). KnowsItsPoint e c.write_entry.new.self.jobs.tables.desk c.write_entry.new.self.jobs.points) (sym c.requires.attempt.its.of.event) tt
 
 pub enter-requires-clause-deck : goal.enter-requires-clause-deck
 enter-requires-clause-deck g c κs within = subst (λ (e : Event). MaySubmit e None) (sym c.requires.attempt.its.of.event) tt

@@ -2,7 +2,7 @@ use Rattle.std.proofs.Common.{IfErr, sym, subst}
 use Rattle.ckr_book.specs.Book.{room_of}
 use Rattle.ckr_desk_store.specs.State.{IsSound}
 use Rattle.ckr_desk_turn.specs.declared.plan.Plan.TheVariants.{Work}
-use Rattle.ckr_desk.proofs.Turns.Preparation.{planned-before, turned-before, turned-not}
+use Rattle.ckr_desk.proofs.Turns.Preparation.{planned-before, seen-alike, turned-before, turned-not}
 use Rattle.ckr_desk.proofs.Calls.FullBooks.{of-disk-numbers}
 use Rattle.ckr_desk.proofs.Calls.Requests.{if-err}
 use Rattle.ckr_desk.proofs.Calls.Stops.{reads-left}
@@ -25,7 +25,7 @@ returns-in_err-unit-clause-turned g c turn p =
     let new = c.work_out.new.self in
     let e = c.work_out.ensures in
     let is : IsAsBefore d.told d.content d.may_leave now new = record {
-      jobs = record { tables = e.jobs.tables; running = e.jobs.running; failed = e.jobs.failed; points = e.jobs.points };
+      jobs = seen-alike now new e.jobs;
       layout = e.layout;
       room = e.room;
       reads = e.only_reads.same;
@@ -47,7 +47,7 @@ returns-in-Went-clause-turned g c turn p =
     let mid = c.work_out.new.self in
     let e = c.work_out.ensures in
     let is : IsAsBefore d.told d.content d.may_leave now mid = record {
-      jobs = record { tables = e.jobs.tables; running = e.jobs.running; failed = e.jobs.failed; points = e.jobs.points };
+      jobs = seen-alike now mid e.jobs;
       layout = e.layout;
       room = e.room;
       reads = e.only_reads.same;
@@ -65,7 +65,7 @@ returns-in_default-clause-turned g c turn p =
     let mid = c.work_out.new.self in
     let e = c.work_out.ensures in
     let is : IsAsBefore d.told d.content d.may_leave now mid = record {
-      jobs = record { tables = e.jobs.tables; running = e.jobs.running; failed = e.jobs.failed; points = e.jobs.points };
+      jobs = seen-alike now mid e.jobs;
       layout = e.layout;
       room = e.room;
       reads = e.only_reads.same;
@@ -104,7 +104,7 @@ returns-in-Went-clause-answered g c turn p =
     let mid = c.work_out.new.self in
     let e = c.work_out.ensures in
     let is : IsAsBefore d.told d.content d.may_leave now mid = record {
-      jobs = record { tables = e.jobs.tables; running = e.jobs.running; failed = e.jobs.failed; points = e.jobs.points };
+      jobs = seen-alike now mid e.jobs;
       layout = e.layout;
       room = e.room;
       reads = e.only_reads.same;
@@ -122,7 +122,7 @@ returns-in_default-clause-answered g c turn p =
     let mid = c.work_out.new.self in
     let e = c.work_out.ensures in
     let is : IsAsBefore d.told d.content d.may_leave now mid = record {
-      jobs = record { tables = e.jobs.tables; running = e.jobs.running; failed = e.jobs.failed; points = e.jobs.points };
+      jobs = seen-alike now mid e.jobs;
       layout = e.layout;
       room = e.room;
       reads = e.only_reads.same;

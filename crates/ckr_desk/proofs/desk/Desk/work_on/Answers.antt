@@ -12,7 +12,7 @@ use Rattle.ckr_desk.proofs.Units.Results.{done-after, done-cause, done-fits, don
 use Rattle.ckr_desk.proofs.Units.Preparation.{err-is}
 use Rattle.ckr_desk.proofs.Turns.Plans.{behind-takes, go-of-disk}
 use Rattle.ckr_desk.proofs.Turns.Preparation.{came-of-disk}
-use Rattle.ckr_desk.proofs.Units.Readiness.{plain-so, ready-behind, unit-leaves}
+use Rattle.ckr_desk.proofs.Units.Readiness.{ready-behind, settled-so, unit-knows, unit-leaves}
 use Rattle.ckr_desk.specs.Requests.{came_by, spelled}
 use Rattle.ckr_desk.specs.Soundness.{KeepsWithin, state_of}
 use Rattle.ckr_desk.specs.State.{DeskView}
@@ -42,8 +42,11 @@ done_unit-requires-clause-unit g c κs within = c.requires.ahead.1.looked.of
 pub go_on-requires-clause-spelled : goal.go_on-requires-clause-spelled
 go_on-requires-clause-spelled g c κs within = c.requires.ahead.1.looked.spelled
 
-pub go_on-requires-clause-plain : goal.go_on-requires-clause-plain
-go_on-requires-clause-plain g c κs within = plain-so c.args.ahead.plan c.requires.ahead.1.looked.shape c.requires.ahead.1.looked.settled
+pub go_on-requires-clause-settled : goal.go_on-requires-clause-settled
+go_on-requires-clause-settled g c κs within = settled-so c.args.ahead.plan c.requires.ahead.1.looked.shape c.requires.ahead.1.looked.settled
+
+pub go_on-requires-clause-knows : goal.go_on-requires-clause-knows
+go_on-requires-clause-knows g c κs within = unit-knows _ _ c.args.ahead.plan c.requires.ahead.1.looked.shape
 
 pub go_on-requires-clause-follows : goal.go_on-requires-clause-follows
 go_on-requires-clause-follows g c κs within =

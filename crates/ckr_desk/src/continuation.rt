@@ -1,0 +1,406 @@
+//! A run that goes on at a checkpoint of an earlier one: before it does, the checkpoint's entry is read from the disk.
+ghost use Rattle.std.specs.Prelude.{◌≡◌, ◌==◌, ◌≤◌, ◌<◌, ◌++◌, [], IfErr, IfOk, IsSome, IsTrue, OnOk, None, Ok, false, true};
+ghost use Rattle.std.specs.Option.{option_copied, option_map, option_map_or};
+ghost use Rattle.ckr_book.specs.Book.{room_of};
+ghost use Rattle.ckr_desk_memory.specs.OwnSteps.{PlanCommits, PlanFollows, PlanLeaves};
+ghost use Rattle.ckr_desk_memory.specs.Plans.{HasDue, IsSpelledPlan, NeedsRoom};
+ghost use Rattle.ckr_entry.specs.Entry.{IsEntry, entry_in};
+ghost use Rattle.ckr_entry.specs.Parts.{entry_of};
+ghost use Rattle.ckr_jcl.specs.declared.deck.Kind.{Kind as KindOf};
+ghost use Rattle.ckr_library.specs.Catalog.{ends_within};
+ghost use Rattle.ckr_library.specs.NameMaps.{EachEntry, Name, entry_at};
+ghost use Rattle.ckr_outside.specs.Disk.{OnlyReads};
+ghost use Rattle.ckr_points.specs.Restart.{syschk_name};
+ghost use Rattle.ckr_points.specs.Rows.{TableSet};
+ghost use Rattle.ckr_points.specs.Statements.{kind_number};
+ghost use Rattle.ckr_points.specs.Syschk.{names_its_set};
+ghost use Rattle.ckr_points_tables.specs.Entries.{entry_in as entry_now};
+ghost use Rattle.ckr_rules.specs.RuleTables.{rule_number};
+ghost use Rattle.ckr_steps.specs.EntryRecords.{bytes_on};
+ghost use Rattle.ckr_steps.specs.Units.{program_of};
+ghost use Rattle.ckr_volumes.specs.Layouts.{StandsIn};
+ghost use Rattle.ckr_volumes.specs.Records.{record_at};
+ghost use Rattle.ckr_desk.specs.Continuation.{GoesOnThere, IsEntryRule, IsPointFound, PlanKnows, continuation_by, continuation_in, denial_plan, entry_there, judged_entry, judged_plan, judged_point, judged_read, judged_there, program_in, there_of, there_under};
+ghost use Rattle.ckr_desk.specs.NoChange.{HaveStayed, IsUnchanged, StaysBy};
+ghost use Rattle.ckr_desk.specs.Records.{ReadingCause};
+ghost use Rattle.ckr_desk.specs.Soundness.{state_of};
+ghost use Rattle.ckr_desk.specs.Units.{IsPlanned};
+ghost use Rattle.ckr_desk_turn.specs.declared.reply.Turn.{Turn as TurnOf};
+
+use crate::entry_reads::{ends_within, kind_number, program_of, put, records_of};
+use crate::kept_point::is_as_kept;
+use crate::{Desk, DeskError};
+use ckr_base::{CheckId, DsName, NoMemory};
+use ckr_console::Operator;
+use ckr_desk_memory::StepPoint;
+use ckr_desk_store::Store;
+use ckr_desk_turn::{Plan, Reply};
+use ckr_entry::{EntryError, Point, State, decode_entry};
+use ckr_events::Event;
+use ckr_jcl::{Job, Kind};
+use ckr_library::{DataSet, Kept};
+use ckr_outside::Disk;
+use ckr_points::{Denial, syschk_name};
+use ckr_points_follows::run_now;
+use ckr_points_tables::{EntryNow, Tables, step_at};
+use ckr_rules::Rule;
+use std::alloc::Global;
+
+/// The checkpoint of an earlier run at which a run goes on.
+#[derive(Drop)]
+pub(crate) struct Continuation {
+    job: u32,
+    earlier: u32,
+    step: u8,
+    id: CheckId,
+}
+
+/// An entry that a data set keeps.
+#[derive(Clone, Copy)]
+pub(crate) struct KeptThere<'a> {
+    set: &'a DataSet,
+    entry: EntryNow<'a>,
+}
+
+/// The checkpoint at which a run is selected to go on, if it continues an earlier one at a checkpoint.
+fn continuation_by(event: &Event) -> Option<Continuation>
+    ensures { result ≡ continuation_by event.now }
+{
+    match event {
+        Event::Selected {
+            job,
+            earlier,
+            step,
+            id,
+            ..
+        } => {
+            if *earlier == 0 {
+                return None;
+            }
+            match id {
+                Some(id) => Some(Continuation {
+                    job: *job,
+                    earlier: *earlier,
+                    step: *step,
+                    id: id.copied(),
+                }),
+                None => None,
+            }
+        }
+        _ => None,
+    }
+}
+
+/// The checkpoint at which a run goes on by a plan.
+fn continuation_in(plan: &Plan) -> Option<Continuation>
+    ensures { result ≡ continuation_in plan.now }
+{
+    match plan {
+        Plan::Tell { event, .. } => continuation_by(event),
+        _ => None,
+    }
+}
+
+/// The name of the data set of a deck's SYSCHK, if it has one.
+fn set_name(deck: &Job) -> Option<&DsName>
+    requires { names_its_set deck.now.syschk ≡ true }
+    ensures { option_map_or (λ (name : Name). name) (option_copied result) [] ≡ syschk_name deck.now }
+{
+    match &deck.syschk {
+        Some(dd) => syschk_name(dd),
+        None => None,
+    }
+}
+
+/// No data set has an empty name.
+fn no_set_without_name(tables: &Tables)
+    ensures { entry_at tables.now.desk.sets [] ≡ None }
+{
+    if let Some(first) = tables.library().name_at(0) {
+        let _ = first.text();
+    }
+}
+
+/// The first entry of an identifier that the data set of a name keeps, with that data set.
+fn there_under<'a>(tables: &'a Tables, name: &DsName, id: &CheckId) -> Option<KeptThere<'a>>
+    ensures { option_map there_of result ≡ there_under tables.now.desk id.now name.now }
+{
+    let Some(set) = tables.library().get(name) else {
+        return None;
+    };
+    match tables.entry_at(name, id) {
+        Some(entry) => Some(KeptThere { set, entry }),
+        None => None,
+    }
+}
+
+/// The same in the data set of a deck's SYSCHK.
+fn there_in_syschk<'a>(tables: &'a Tables, deck: &Job, id: &CheckId) -> Option<KeptThere<'a>>
+    requires { names_its_set deck.now.syschk ≡ true }
+    ensures { option_map there_of result ≡ there_under tables.now.desk id.now (syschk_name deck.now) }
+{
+    match set_name(deck) {
+        Some(name) => there_under(tables, name, id),
+        None => {
+            no_set_without_name(tables);
+            None
+        }
+    }
+}
+
+/// The entry at which a run goes on.
+fn entry_there<'a>(tables: &'a Tables, at: &Continuation) -> Option<KeptThere<'a>>
+    ensures { option_map there_of result ≡ entry_there tables.now.desk at.now }
+{
+    match run_now(tables, at.job) {
+        Some(run) => there_in_syschk(tables, run.table.job.deck(), &at.id),
+        None => None,
+    }
+}
+
+/// The program of a step of a run.
+fn program_in(tables: &Tables, run: u32, step: u8) -> Option<Kind>
+    ensures { result ≡ program_in tables.now.desk run step }
+{
+    let Some(now) = run_now(tables, run) else {
+        return None;
+    };
+    match step_at(&now.table.job, now.line.number, step) {
+        Some(own) => Some(own.step.program),
+        None => None,
+    }
+}
+
+/// Reads the record at a place, and puts its bytes behind those that were read.
+fn read_next<D: Disk>(
+    store: &mut Store<D>,
+    set: &DataSet,
+    place: u32,
+    found: &mut Vec<u8>,
+) -> Result<(), DeskError>
+    requires is_open { store.old.fault ≡ None }
+    requires stands { StandsIn store.old.layout set.now }
+    requires place { place < set.now.space }
+    ensures read { D.told → OnOk result (found.new.items ≡ found.old.items ++ record_at (D.content store.old.disk) store.old.layout set.now place) }
+    ensures kept { OnOk result (store.new ≡ record store.old { disk = store.new.disk }) }
+    ensures only_reads { OnlyReads D.content D.may_leave D.moment D.left_since store.old.disk store.new.disk }
+    ensures size { D.size store.new.disk ≡ D.size store.old.disk }
+    ensures faults { D.faults store.old.disk ≤ D.faults store.new.disk }
+    ensures cause { IfErr result (ReadingCause D.faults store.old store.new) }
+{
+    let record = store.read_record(set, place)?;
+    put(found, record.bytes())?;
+    Ok(())
+}
+
+/// The bytes of an entry that has its places in a data set.
+#[tactic(auto, using(crate::proofs::Openings::EntryReads::pieces))]
+fn read_entry<D: Disk>(
+    alloc: Global,
+    store: &mut Store<D>,
+    set: &DataSet,
+    kept: &Kept,
+) -> Result<Vec<u8>, DeskError>
+    requires is_open { store.old.fault ≡ None }
+    requires stands { StandsIn store.old.layout set.now }
+    requires places { IsTrue (ends_within set.now.space kept.now) }
+    ensures read { D.told → IfOk result (λ found. found.items ≡ bytes_on (D.content store.old.disk) store.old.layout set.now kept.now.place kept.now.bytes) }
+    ensures kept { OnOk result (store.new ≡ record store.old { disk = store.new.disk }) }
+    ensures only_reads { OnlyReads D.content D.may_leave D.moment D.left_since store.old.disk store.new.disk }
+    ensures size { D.size store.new.disk ≡ D.size store.old.disk }
+    ensures faults { D.faults store.old.disk ≤ D.faults store.new.disk }
+    ensures cause { IfErr result (ReadingCause D.faults store.old store.new) }
+{
+    let mut found = Vec::new(alloc);
+    for place in 0..records_of(kept.bytes) {
+        read_next(store, set, kept.place + place, &mut found)?;
+    }
+    found.truncate(kept.bytes as usize);
+    Ok(found)
+}
+
+/// Whether a state is of a program.
+fn is_of_program(state: &State, program: Option<Kind>) -> bool
+    ensures { result ≡ option_map_or (λ (kind : KindOf). kind_number (program_of state.now) == kind_number kind) program false }
+{
+    match program {
+        Some(kind) => kind_number(program_of(state)) == kind_number(kind),
+        None => false,
+    }
+}
+
+/// The point at which a run goes on, by the point that was read of an entry; or the rule that denies it.
+fn judged_point_read(
+    point: Point,
+    run: u32,
+    entry: &EntryNow<'_>,
+    program: Option<Kind>,
+) -> Result<StepPoint, Rule>
+    requires { IsSome point.id }
+    ensures { result ≡ judged_entry run (entry_now entry.now) program (entry_of point) }
+{
+    if !is_as_kept(&point, entry) {
+        return Err(Rule::D3);
+    }
+    if !is_of_program(&point.state, program) {
+        return Err(Rule::D7);
+    }
+    Ok(StepPoint {
+        run,
+        state: point.state,
+        writes: point.writes,
+    })
+}
+
+/// The same by the bytes of an entry.
+fn judged_bytes(
+    alloc: Global,
+    bytes: &[u8],
+    run: u32,
+    entry: &EntryNow<'_>,
+    program: Option<Kind>,
+) -> Result<Result<StepPoint, Rule>, NoMemory>
+    ensures judged { IfOk result (λ found. found ≡ judged_read run (entry_now entry.now) program (entry_in bytes.now)) }
+    ensures form { OnOk result (IfOk (entry_in bytes.now) IsEntry) }
+{
+    match decode_entry(alloc, bytes) {
+        Ok(point) => Ok(judged_point_read(point, run, entry, program)),
+        Err(EntryError::NoMemory) => Err(NoMemory),
+        Err(EntryError::Bad { .. }) => Ok(Err(Rule::D3)),
+    }
+}
+
+/// The same by what the disk has of an entry, where that has its places.
+fn judged_there<D: Disk>(
+    alloc: Global,
+    store: &mut Store<D>,
+    there: &KeptThere<'_>,
+    run: u32,
+    program: Option<Kind>,
+) -> Result<Result<StepPoint, Rule>, DeskError>
+    requires is_open { store.old.fault ≡ None }
+    requires stands { StandsIn store.old.layout (there_of there.now).set }
+    ensures judged { D.told → IfOk result (λ found. found ≡ judged_there store.old.layout (D.content store.old.disk) run program (there_of there.now)) }
+    ensures its { IfOk result (IsPointFound run program) }
+    ensures kept { OnOk result (store.new ≡ record store.old { disk = store.new.disk }) }
+    ensures only_reads { OnlyReads D.content D.may_leave D.moment D.left_since store.old.disk store.new.disk }
+    ensures size { D.size store.new.disk ≡ D.size store.old.disk }
+    ensures faults { D.faults store.old.disk ≤ D.faults store.new.disk }
+    ensures cause { IfErr result (ReadingCause D.faults store.old store.new) }
+{
+    if !ends_within(there.entry.kept, there.set.space) {
+        return Ok(Err(Rule::D3));
+    }
+    let bytes = read_entry(alloc, store, there.set, there.entry.kept)?;
+    Ok(judged_bytes(alloc, bytes.as_slice(), run, &there.entry, program)?)
+}
+
+/// The point at which a run goes on; or the rule that denies it, also where the entry isn't kept.
+fn judged_point<D: Disk>(
+    alloc: Global,
+    store: &mut Store<D>,
+    tables: &Tables,
+    at: &Continuation,
+) -> Result<Result<StepPoint, Rule>, DeskError>
+    requires is_open { store.old.fault ≡ None }
+    requires stand { EachEntry (λ (table : TableSet). StandsIn store.old.layout table.set) tables.now.desk.sets }
+    ensures judged { D.told → IfOk result (λ found. found ≡ judged_point store.old.layout tables.now.desk (D.content store.old.disk) at.now) }
+    ensures its { IfOk result (IsPointFound at.now.job (program_in tables.now.desk at.now.earlier at.now.step)) }
+    ensures kept { OnOk result (store.new ≡ record store.old { disk = store.new.disk }) }
+    ensures only_reads { OnlyReads D.content D.may_leave D.moment D.left_since store.old.disk store.new.disk }
+    ensures size { D.size store.new.disk ≡ D.size store.old.disk }
+    ensures faults { D.faults store.old.disk ≤ D.faults store.new.disk }
+    ensures cause { IfErr result (ReadingCause D.faults store.old store.new) }
+{
+    let program = program_in(tables, at.earlier, at.step);
+    match entry_there(tables, at) {
+        Some(there) => judged_there(alloc, store, &there, at.job, program),
+        None => Ok(Err(Rule::D3)),
+    }
+}
+
+/// The number of a rule that tells what is wrong with an entry.
+fn number_of(rule: Rule) -> u8
+    requires { IsEntryRule rule }
+    ensures { result ≡ rule_number rule }
+{
+    match rule {
+        Rule::D3 => 19,
+        Rule::D7 => 23,
+        _ => unreachable!(),
+    }
+}
+
+/// The restart is denied by a rule that tells what is wrong with an entry.
+fn denied(job: u32, rule: Rule) -> Plan
+    requires { IsEntryRule rule }
+    ensures plan { result ≡ denial_plan job rule }
+    ensures spelled { IsSpelledPlan result }
+{
+    Plan::Tell {
+        reply: Reply::DeniedRestart {
+            job,
+            denial: Denial {
+                rule,
+                name: None,
+                had: None,
+                now: None,
+            },
+        },
+        event: Event::Denied {
+            job,
+            rule: number_of(rule),
+            name: None,
+        },
+    }
+}
+
+impl<D: Disk, O: Operator> Desk<D, O> {
+    /// Judges a plan by which a run goes on at a checkpoint of an earlier one: the checkpoint's entry is read, and where it is as the tables keep it, with
+    /// a state of the step's program, the step's point is known from then on. Else the plan is the denial by D3 or D7. Every other plan is given as it is,
+    /// and nothing is done (IBM GC28-6708, this project's profile).
+    ///
+    /// `NoMemory`: nothing has changed. `DiskFault`: only where the disk's faults rose in this call; then the desk has stopped. Nothing else comes.
+    pub(crate) fn judged(&mut self, plan: Plan) -> Result<Plan, DeskError>
+        requires is_open { self.old.store.fault ≡ None }
+        requires spelled { IsSpelledPlan plan }
+        requires follows { PlanFollows self.old.store.layout self.old.jobs.tables.desk plan }
+        requires commits { PlanCommits self.old.jobs.tables.desk self.old.jobs.running plan }
+        requires leaves { PlanLeaves self.old.jobs.failed plan }
+        requires due { HasDue self.old.jobs plan }
+        ensures judged { D.told → IfOk result (λ given. given ≡ judged_plan self.old.store.layout self.old.jobs.tables.desk (D.content self.old.store.disk) plan) }
+        ensures spelled { IfOk result IsSpelledPlan }
+        ensures follows { IfOk result (PlanFollows self.new.store.layout self.new.jobs.tables.desk) }
+        ensures commits { IfOk result (PlanCommits self.new.jobs.tables.desk self.new.jobs.running) }
+        ensures leaves { IfOk result (PlanLeaves self.new.jobs.failed) }
+        ensures due { IfOk result (HasDue self.new.jobs) }
+        ensures knows { IfOk result (PlanKnows self.new.jobs.tables.desk self.new.jobs.points) }
+
+        // On a trusted disk the plan stays, and the point is that of the entry at which the run goes on.
+        ensures trusted { (turn : TurnOf) → IsPlanned D.told D.content D.may_leave self.old turn plan → IfOk result (GoesOnThere (state_of D.content self.old).desk self.new.jobs.points plan) }
+        ensures jobs { HaveStayed self.old.jobs self.new.jobs }
+        ensures operator { self.new.operator ≡ self.old.operator }
+        ensures is_open { OnOk result (self.new.store.fault ≡ None) }
+        ensures layout { self.new.store.layout ≡ self.old.store.layout }
+        ensures room { room_of self.new.store.book ≡ room_of self.old.store.book }
+        ensures only_reads { OnlyReads D.content D.may_leave D.moment D.left_since self.old.store.disk self.new.store.disk }
+        ensures size { D.size self.new.store.disk ≡ D.size self.old.store.disk }
+        ensures faults { D.faults self.old.store.disk ≤ D.faults self.new.store.disk }
+        ensures unchanged { OnOk result (IsUnchanged D.content D.may_leave self.old self.new) }
+        ensures cause { IfErr result (ReadingCause D.faults self.old.store self.new.store) }
+        ensures takes { IfErr result (λ _. NeedsRoom plan) }
+        ensures stays { IfErr result (StaysBy D.content D.may_leave D.faults self.old self.new) }
+    {
+        let _layout = self.store.layout();
+        let Some(at) = continuation_in(&plan) else {
+            return Ok(plan);
+        };
+        match judged_point(self.alloc, &mut self.store, self.jobs.tables(), &at)? {
+            Ok(point) => {
+                self.jobs.put_point(point)?;
+                Ok(plan)
+            }
+            Err(rule) => Ok(denied(at.job, rule)),
+        }
+    }
+}
