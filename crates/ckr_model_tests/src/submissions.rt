@@ -17,10 +17,10 @@ const PLAIN: [&[u8]; 6] = [
     b"//S2 EXEC PGM=IEFBR14",
 ];
 
-/// A deck, and the number of the rule by which it is refused, 0 where the desk doesn't run it, and None where it is accepted.
+/// A deck, and the number of the rule by which it is refused; None where it is accepted.
 type Row = (&'static [&'static [u8]], Option<u8>);
 
-const ROWS: [Row; 10] = [
+const ROWS: [Row; 12] = [
     (&[b"//J JOB", b"//S1 EXEC PGM=IEFBR14"], None),
     (&[b"//J JOB", b"//S1 EXEC PGM=IEFBR14,RD=R"], None),
     (&[b"//J JOB", b"//S1 EXEC PGM=IEFBR14,RD=RNC"], None),
@@ -29,7 +29,19 @@ const ROWS: [Row; 10] = [
     (&[b"//J JOB", b"//S1 EXEC PGM=UNKNOWN"], Some(14)),
     (&[b"//J JOB", b"//S1 EXEC PGM=COPY"], Some(16)),
     (&[b"//J JOB", b"//S1 EXEC"], Some(14)),
-    (&[b"//J JOB RESTART=*", b"//S1 EXEC PGM=IEFBR14"], Some(0)),
+    (&[b"//J JOB RESTART=*", b"//S1 EXEC PGM=IEFBR14"], None),
+    (
+        &[
+            b"//J JOB RESTART=(S1,C1)",
+            b"//SYSCHK DD DSN=CHK.A,DISP=OLD",
+            b"//S1 EXEC PGM=IEFBR14",
+        ],
+        None,
+    ),
+    (
+        &[b"//J JOB RESTART=(S1,C1)", b"//S1 EXEC PGM=IEFBR14"],
+        Some(13),
+    ),
     (&PLAIN, None),
 ];
 
