@@ -142,6 +142,26 @@ pub fn text_in_turn(alloc: Global, streams: &[&[u8]]) -> Result<Vec<u8>, Fail> {
     Ok(text)
 }
 
+/// The disk behind these streams, each a call of its own.
+pub fn disk_behind(alloc: Global, streams: &[&[u8]]) -> Result<MemDisk, Fail> {
+    let mut disk = formatted(alloc, CARDS, SIZE, None, None)?;
+    for stream in streams {
+        disk = call(alloc, "run", stream, disk)?.disk;
+    }
+    Ok(disk)
+}
+
+/// A stream behind others, each a call of its own, with the text and the status of its call.
+pub type Row = (&'static [&'static [u8]], &'static [u8], &'static [u8], u8);
+
+/// Whether a stream is answered as its row has it.
+pub fn is_answered(alloc: Global, row: &Row) -> Result<bool, Fail> {
+    let (before, stream, text, status) = *row;
+    let disk = disk_behind(alloc, before)?;
+    let ended = call(alloc, "run", stream, disk)?;
+    Ok(ended.status == status && ended.text.as_slice() == text)
+}
+
 /// No operators: every question stays unanswered.
 fn nobody(alloc: Global) -> Vec<Standing> {
     Vec::new(alloc)

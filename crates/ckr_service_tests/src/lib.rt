@@ -6,7 +6,13 @@ mod calls;
 #[cfg(test)]
 mod checkpoints;
 #[cfg(test)]
+mod continuations;
+#[cfg(test)]
+mod denials;
+#[cfg(test)]
 mod operators;
+#[cfg(test)]
+mod programs;
 #[cfg(test)]
 mod refusals;
 #[cfg(test)]
@@ -15,5 +21,7 @@ mod restarts;
 mod rows;
 #[cfg(test)]
 mod stops;
+#[cfg(test)]
+mod takeovers;
 #[cfg(test)]
 mod words;

@@ -160,7 +160,7 @@ const PROGRAMS: [(&[u8], &[u8], &[u8]); 7] = [
 ];
 
 /// More of them, for two checkpoints and what comes behind.
-const MORE: &[u8] =
+pub const MORE: &[u8] =
     b"//MAKE JOB\n//S1 EXEC PGM=COPY\n//SYSUT1 DD *\n0001AA\n0002BB\n0003CC\n0004DD\n0005EE\n0006FF\n/*\n//SYSUT2 DD DSN=M.A,DISP=(NEW,CATLG),SPACE=(80,9)\n//\n$T 1 99\n";
 
 /// A job of one step for each program that takes checkpoints.
@@ -188,7 +188,7 @@ const CHECKPOINTS: [(&[u8], &[u8], &[u8]); 2] = [
 ];
 
 /// What is left in the end.
-const LISTING: &[u8] = b"$O\n$R M.A\n$R OUT.J\n$R LIST.J\n$R SYSOUT.J0000002.S.REJECTS\n";
+pub const LISTING: &[u8] = b"$O\n$R M.A\n$R OUT.J\n$R LIST.J\n$R SYSOUT.J0000002.S.REJECTS\n";
 
 const RESTARTED: &[u8] = b"I1 J0000002 S RESTARTED AT STEP\n";
 

@@ -114,3 +114,82 @@ fn a_restart_at_a_checkpoint_reads_no_record_again(rt: HostRuntime) -> Result<()
     assert!(rt; behind.iter().any(|call| reads(call, 40, 41)));
     Ok(())
 }
+
+/// Streams up to before a turn and up to behind it, what is looked at then, and what is told where the turn isn't done and where it is.
+type Turn = (
+    &'static [u8],
+    &'static [u8],
+    &'static [u8],
+    &'static [u8],
+    &'static [u8],
+);
+
+/// A job goes on at a checkpoint of an earlier one: it waits still, and goes on there, or it was running, and is restarted there. It goes on at the start of a step, which is begun
+/// next. And it is denied.
+const TAKEN_UP: [Turn; 3] = [
+    (
+        b"//K JOB RD=NR\n//S1 EXEC PGM=COPY,PARM='CHK=2'\n//SYSUT1 DD *\nA\nB\nC\nD\nE\n/*\n//SYSUT2 DD DSN=OUT.K,DISP=(NEW,CATLG,CATLG),SPACE=(80,9)\n//CHKDD DD DSN=CHK.K,DISP=(NEW,CATLG,CATLG),SPACE=(256,9)\n//\n$T 1 6\n$F 1 S001\n//K JOB RESTART=(S1,C0000001)\n//SYSCHK DD DSN=CHK.K,DISP=OLD\n//S1 EXEC PGM=COPY,PARM='CHK=2'\n//SYSUT1 DD *\nA\nB\nC\nD\nE\n/*\n//SYSUT2 DD DSN=OUT.K,DISP=(NEW,CATLG,CATLG),SPACE=(80,9)\n//CHKDD DD DSN=CHK.K,DISP=(NEW,CATLG,CATLG),SPACE=(256,9)\n//\n",
+        b"//K JOB RD=NR\n//S1 EXEC PGM=COPY,PARM='CHK=2'\n//SYSUT1 DD *\nA\nB\nC\nD\nE\n/*\n//SYSUT2 DD DSN=OUT.K,DISP=(NEW,CATLG,CATLG),SPACE=(80,9)\n//CHKDD DD DSN=CHK.K,DISP=(NEW,CATLG,CATLG),SPACE=(256,9)\n//\n$T 1 6\n$F 1 S001\n//K JOB RESTART=(S1,C0000001)\n//SYSCHK DD DSN=CHK.K,DISP=OLD\n//S1 EXEC PGM=COPY,PARM='CHK=2'\n//SYSUT1 DD *\nA\nB\nC\nD\nE\n/*\n//SYSUT2 DD DSN=OUT.K,DISP=(NEW,CATLG,CATLG),SPACE=(80,9)\n//CHKDD DD DSN=CHK.K,DISP=(NEW,CATLG,CATLG),SPACE=(256,9)\n//\n$T 1 1\n",
+        b"$Q\n$T 1 2\n",
+        b"J0000001 K ENDED\nJ0000002 K QUEUED\nI1 J0000002 S1 RESTARTED AT C0000001 TAKEN 2 CHKPT 04\nI1 J0000002 S1 WORKED 1 TAKEN 3\n",
+        b"J0000001 K ENDED\nJ0000002 K ON I1\nI1 J0000002 S1 RESTARTED AT C0000001 TAKEN 2 CHKPT 04\nI1 J0000002 S1 WORKED 1 TAKEN 3\n",
+    ),
+    (
+        b"//K JOB\n//S1 EXEC PGM=COPY\n//SYSUT1 DD *\nA\nB\n/*\n//SYSUT2 DD DSN=OUT.K,DISP=(NEW,CATLG,DELETE),SPACE=(80,9)\n//\n$T 1 3\n$F 1 S001\n//K JOB RESTART=S1\n//S1 EXEC PGM=COPY\n//SYSUT1 DD *\nA\nB\n/*\n//SYSUT2 DD DSN=OUT.K,DISP=(NEW,CATLG,DELETE),SPACE=(80,9)\n//\n",
+        b"//K JOB\n//S1 EXEC PGM=COPY\n//SYSUT1 DD *\nA\nB\n/*\n//SYSUT2 DD DSN=OUT.K,DISP=(NEW,CATLG,DELETE),SPACE=(80,9)\n//\n$T 1 3\n$F 1 S001\n//K JOB RESTART=S1\n//S1 EXEC PGM=COPY\n//SYSUT1 DD *\nA\nB\n/*\n//SYSUT2 DD DSN=OUT.K,DISP=(NEW,CATLG,DELETE),SPACE=(80,9)\n//\n$T 1 1\n",
+        b"$Q\n$T 1 1\n",
+        b"J0000001 K ENDED\nJ0000002 K QUEUED\nI1 J0000002 S1 RESTARTED AT STEP\n",
+        b"J0000001 K ENDED\nJ0000002 K ON I1\nI1 J0000002 S1 STARTED\n",
+    ),
+    (
+        b"//N JOB RESTART=S\n//S EXEC PGM=IEFBR14\n//\n",
+        b"//N JOB RESTART=S\n//S EXEC PGM=IEFBR14\n//\n$T 1 1\n",
+        b"$Q\n$T 1 1\n",
+        b"J0000001 N QUEUED\nI1 J0000001 RESTART DENIED D1\n",
+        b"J0000001 N DENIED\nI1 IDLE\n",
+    ),
+];
+
+/// Whether a stop at this call leaves all of a turn or nothing of it: nothing before its first call, and all behind its last one.
+fn leaves_all_or_nothing(
+    alloc: Global,
+    turn: &Turn,
+    before: u64,
+    behind: u64,
+    stop_at: u64,
+    pick: Pick,
+) -> Result<bool, Fail> {
+    let (_, stream, look, undone, done) = *turn;
+    let disk = formatted(alloc, CARDS, SIZE, None, Some(stop_at))?;
+    let stopped = call(alloc, "run", stream, disk)?;
+    let again = call(alloc, "run", look, stopped.disk.stop(pick))?;
+    let nothing = again.text.as_slice() == undone;
+    let all = again.text.as_slice() == done;
+    Ok((all || nothing) && (nothing || stop_at != before) && (all || stop_at != behind))
+}
+
+/// The same of each of its calls, for one picture of what a stop leaves.
+fn each_stop_leaves_all_or_nothing(alloc: Global, turn: &Turn, pick: Pick) -> Result<bool, Fail> {
+    let before = calls_of(alloc, turn.0)?;
+    let behind = calls_of(alloc, turn.1)?;
+    for stop_at in before..=behind {
+        if !leaves_all_or_nothing(alloc, turn, before, behind, stop_at, pick)? {
+            return Ok(false);
+        }
+    }
+    Ok(before < behind)
+}
+
+#[test]
+fn a_stop_within_the_turn_that_takes_up_a_job_with_restart(rt: HostRuntime) -> Result<(), Fail> {
+    let alloc = rt.alloc();
+    for (place, turn) in TAKEN_UP.iter().enumerate() {
+        for pick in [Pick::Kept, Pick::Lost, Pick::Filled(165)] {
+            assert!(rt;
+                each_stop_leaves_all_or_nothing(alloc, turn, pick)?,
+                "turn {place}"
+            );
+        }
+    }
+    Ok(())
+}
