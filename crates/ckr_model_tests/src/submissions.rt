@@ -3,7 +3,7 @@
 use crate::decks::{are_cards, cards_of};
 use ckr_base::NoMemory;
 use ckr_events::Event;
-use ckr_points_decks::{Submission, is_run, job_of_kept, submission_of, submitted_event};
+use ckr_points_decks::{Submission, job_of_kept, submission_of, submitted_event};
 use std::alloc::Global;
 use std::test::Fail;
 
@@ -72,7 +72,7 @@ fn is_read_again(alloc: Global, kept: &[u8]) -> Result<bool, NoMemory> {
         return Ok(false);
     }
     Ok(match job_of_kept(alloc, kept)? {
-        Some(job) => is_run(&job) && job.steps.as_slice().len() == 2,
+        Some(job) => job.steps.as_slice().len() == 2,
         None => false,
     })
 }
