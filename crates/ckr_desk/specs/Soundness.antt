@@ -51,7 +51,7 @@ desk_opening image size = desk_of_opened image (opening_of image size)
 
 -- ---- sound images
 
--- An image opens, so that its events are those of what the desk runs; each of them may come and carries what its job gives; and the image
+-- An image opens, so that its events are those of a desk; each of them may come and carries what its job gives; and the image
 -- has what they have committed, once the record is written again that the last of them tells, and the entries of checkpoints that they keep,
 -- each with the state that its program had there.
 pub record Sound (size : ℕ) (image : List ℕ) : Type 0 where

@@ -134,7 +134,7 @@ impl<D: Disk, O: Operator> Desk<D, O> {
     }
 
     /// Keeps an event that follows, with the memory that it needs. A deck is given exactly where the event is Submitted and its cards
-    /// are a deck, and it is that deck, accepted and of a form that the desk runs.
+    /// are a deck, and it is that deck, which was accepted. Where a run goes on by it at a checkpoint of an earlier one, the point is known.
     ///
     /// `NoMemory`, also where a count of rewrites is at its end; `BookFull` where the event needs more than the room of the book: the jobs
     /// and the disk are the same then. `DiskFault`: only where the disk's faults rose in this call; then the desk has stopped. `Stopped`:

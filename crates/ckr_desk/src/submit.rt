@@ -91,7 +91,7 @@ impl<D: Disk, O: Operator> Desk<D, O> {
     /// card, and there are fewer than 4,294,967,295.
     ///
     /// `Refused`: exactly where the deck is refused by the rules J01 to J24; and with number 0 at card 1 exactly where the
-    /// deck is accepted, and the desk doesn't run its form, or its job would be the 10,000,000th. Nothing changes then.
+    /// deck is accepted, and its job would have a number of eight digits. Nothing changes then.
     ///
     /// The errors are those of `tell`; without an event only `NoMemory` and `Stopped` come (this project's profile).
     pub(crate) fn hand_in(&mut self, cards: &[u8]) -> Result<Submitted, DeskError>
@@ -127,7 +127,7 @@ impl<D: Disk, O: Operator> Desk<D, O> {
     /// card, and there are fewer than 4,294,967,295.
     ///
     /// `Refused`: exactly where the deck is refused by the rules J01 to J24; and with number 0 at card 1 exactly where the
-    /// deck is accepted, and the desk doesn't run its form, or its job would be the 10,000,000th. Nothing changes then.
+    /// deck is accepted, and its job would have a number of eight digits. Nothing changes then.
     ///
     /// `NoMemory`. `BookFull`: exactly where the event of the deck needs more than the room of the book, both in bytes, and there was memory.
     /// Nothing has changed after these two. `DiskFault`: only where the disk's faults rose in this call; then the desk has stopped. `Stopped`:

@@ -96,6 +96,6 @@ accepted-deck cards job e = by_deck (stored_deck cards) job e
 pub few-accepted : (cards : List ℕ) (job : Job) → submission_of cards ≡ Accepted job → length cards / 81 ≤ 100000
 few-accepted cards job e = few_cards cards job (accepted-deck cards job e)
 
--- its row is such as the desk runs
+-- its row is that of an accepted deck
 pub accepted-row : (cards : List ℕ) (number : ℕ) (job : Job) → submission_of cards ≡ Accepted job → IsAcceptedRow (queued_run number job)
 accepted-row cards number job e = let its = accepted-deck cards job e in record { cards = cards; accepted = its; steps = own-step cards number job its; plain = λ none. refl; first = λ none. refl }

@@ -77,7 +77,7 @@ opens-grown layout records tables behind event opens is follows =
     let more = appended layout no_tables 0 records (spelling event ∷ []) tables opens in
     more.1 ∙ one_record layout tables more.0 event behind (event_again event is) follows
 
--- an event that goes on in what the desk runs
+-- an event by which the desk goes on
 pub replayed-so : (layout : Layout) (tables : TablesModel) (event : Event) → goes_on layout tables event (deck_of event) ≡ true → replayed layout tables event ≡ Some (after_event event (deck_of event) tables)
 unfolding replayed
 replayed-so layout tables event goes = ap (λ b. cond b (Some (after_event event (deck_of event) tables)) None) goes
