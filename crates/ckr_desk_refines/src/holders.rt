@@ -1,52 +1,25 @@
 //! Whether a run holds the name of a data set: its submitted deck has it, SYSCHK's included, by the root of its job and the owners of its steps.
-ghost use Rattle.std.specs.Prelude.{◌≡◌, ◌≤◌, ◌<◌, ◌-◌, ℕ, Some, false, slice_get};
+ghost use Rattle.std.specs.Prelude.{◌≡◌, ◌<◌, ◌-◌, ℕ, Some, slice_get};
 ghost use Rattle.std.specs.List.{list_any};
-ghost use Rattle.std.specs.Option.{option_copied, option_map_or};
+ghost use Rattle.std.specs.Option.{option_copied};
 ghost use Rattle.ckr_desk_memory.specs.Model.RunJobs.{effective, names_in, IsFitting};
 ghost use Rattle.ckr_desk_memory.specs.Model.RunRows.{IsRunRow};
-ghost use Rattle.ckr_library.specs.NameMaps.{same_name};
 ghost use Rattle.ckr_meaning.specs.EffectiveJob.{is_among, names_of_job, step_at};
 ghost use Rattle.ckr_points.specs.Office.{is_holder};
 ghost use Rattle.ckr_points.specs.Rows.{run_of, RunRow};
-ghost use Rattle.ckr_uses.specs.SetNames.{library_name};
 ghost use Rattle.ckr_desk_refines.specs.Holders.{as_submitted, is_held_in, names_held, syschk_names};
 
 use ckr_base::DsName;
 use ckr_desk_memory::Tables;
-use ckr_jcl::{Dd, Job, Step};
-use ckr_points::{Run, RunState, syschk_name};
+use ckr_jcl::{Job, Step};
+use ckr_points::{Run, RunState, has_name, syschk_name};
 use ckr_points_tables::{EffectiveJob, step_at};
-use ckr_uses::library_name;
 
 /// Whether a run in this state holds its names: it is selected and not ended.
 fn is_holder(state: RunState) -> bool
     ensures { result ≡ is_holder state }
 {
     matches!(state, RunState::On | RunState::Held | RunState::Released)
-}
-
-/// Whether the data set of a DD of a step has this name, with these numbers of the run's root and of the step's owner.
-fn is_named(dd: &Dd, root: u32, owner: u32, step: &Step, name: &DsName) -> bool
-    requires root { root ≤ 9999999 }
-    requires owner { owner ≤ 9999999 }
-    ensures { result ≡ option_map_or (same_name name.now) (library_name dd.now root owner step.now.name) false }
-{
-    match library_name(dd, root, owner, &step.name) {
-        Some(other) => name.is_same(&other),
-        None => false,
-    }
-}
-
-/// Whether a step has the name, with these numbers.
-fn has_name(root: u32, owner: u32, step: &Step, name: &DsName) -> bool
-    requires root { root ≤ 9999999 }
-    requires owner { owner ≤ 9999999 }
-    ensures { result ≡ list_any (λ dd. option_map_or (same_name name.now) (library_name dd root owner step.now.name) false) step.now.dds }
-{
-    step.dds
-        .as_slice()
-        .iter()
-        .any(|dd| is_named(dd, root, owner, step, name))
 }
 
 /// The step of a number of a deck, from 1.

@@ -16,4 +16,5 @@ pub use marks::{has_present_marks, is_marked_absent, is_of_step, mark_at, presen
 pub use needed::Needed;
 pub use run::{Run, RunState, step_in};
 pub use statements::same_statements;
+pub use step_names::has_name;
 pub use syschk::{is_syschk_found, syschk_name};

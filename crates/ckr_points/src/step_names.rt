@@ -15,19 +15,7 @@ ghost use Rattle.ckr_uses.specs.SetNames.{library_name};
 use ckr_base::{DsName, Name8};
 use ckr_jcl::{Dd, Origin, Step};
 use ckr_points_library::is_output;
-use ckr_uses::library_name;
-
-/// Whether the data set of a DD has this name, for a DD of the step of that name.
-fn is_named(dd: &Dd, root: u32, owner: u32, step: &Name8, name: &DsName) -> bool
-    requires root { root ≤ 9999999 }
-    requires owner { owner ≤ 9999999 }
-    ensures { result ≡ option_map_or (same_name name.now) (library_name dd.now root owner step.now) false }
-{
-    match library_name(dd, root, owner, step) {
-        Some(other) => name.is_same(&other),
-        None => false,
-    }
-}
+use ckr_uses::has_set_named;
 
 /// The DD of a step that has the name.
 pub(crate) fn dd_under<'a>(root: u32, owner: u32, step: &'a Step, name: &DsName) -> Option<&'a Dd>
@@ -38,7 +26,7 @@ pub(crate) fn dd_under<'a>(root: u32, owner: u32, step: &'a Step, name: &DsName)
     step.dds
         .as_slice()
         .iter()
-        .find(|dd| is_named(dd, root, owner, &step.name, name))
+        .find(|dd| has_set_named(dd, root, owner, &step.name, name))
 }
 
 /// Whether the data set of one of these DDs has the name.
@@ -47,11 +35,11 @@ fn is_any_named(root: u32, owner: u32, step: &Name8, dds: &[Dd], name: &DsName) 
     requires owner { owner ≤ 9999999 }
     ensures { result ≡ list_any (λ (dd : DdOfStep). option_map_or (same_name name.now) (library_name dd root owner step.now) false) dds.now }
 {
-    dds.iter().any(|dd| is_named(dd, root, owner, step, name))
+    dds.iter().any(|dd| has_set_named(dd, root, owner, step, name))
 }
 
-/// Whether a step has the name.
-pub(crate) fn has_name(root: u32, owner: u32, step: &Step, name: &DsName) -> bool
+/// Whether a step has the name, with these numbers of the run's root and of the run that owns the step.
+pub fn has_name(root: u32, owner: u32, step: &Step, name: &DsName) -> bool
     requires root { root ≤ 9999999 }
     requires owner { owner ≤ 9999999 }
     ensures { result ≡ is_among (names_of root (owned step.now owner [])) name.now }
@@ -65,7 +53,7 @@ fn is_any_output(root: u32, owner: u32, step: &Name8, dds: &[Dd], name: &DsName)
     requires owner { owner ≤ 9999999 }
     ensures { result ≡ list_any (λ (dd : DdOfStep). is_output dd.role && option_map_or (same_name name.now) (library_name dd root owner step.now) false) dds.now }
 {
-    dds.iter().any(|dd| is_output(dd.role) && is_named(dd, root, owner, step, name))
+    dds.iter().any(|dd| is_output(dd.role) && has_set_named(dd, root, owner, step, name))
 }
 
 /// Whether a step puts records into the data set of the name.
@@ -90,7 +78,7 @@ fn is_any_sysout(root: u32, owner: u32, step: &Name8, dds: &[Dd], name: &DsName)
     requires owner { owner ≤ 9999999 }
     ensures { result ≡ list_any (λ (dd : DdOfStep). is_sysout dd.origin && option_map_or (same_name name.now) (library_name dd root owner step.now) false) dds.now }
 {
-    dds.iter().any(|dd| is_sysout(&dd.origin) && is_named(dd, root, owner, step, name))
+    dds.iter().any(|dd| is_sysout(&dd.origin) && has_set_named(dd, root, owner, step, name))
 }
 
 /// Whether a step has the name for the printer.

@@ -2,13 +2,12 @@
 ghost use Rattle.std.specs.Prelude.{◌≡◌, ◌≤◌, ℕ, ◌++◌, ◌∷◌, [], IfOk, IfSome, IsSome, OnOk, Some, length, map, slice_get, take};
 ghost use Rattle.std.specs.Rc.{rc_value};
 ghost use Rattle.std.specs.Option.{is_some, option_map};
-ghost use Rattle.ckr_meaning.specs.EffectiveJob.{is_among, names_of_job, owned_by, step_at, OwnedStep};
+ghost use Rattle.ckr_meaning.specs.EffectiveJob.{owned_by, step_at, OwnedStep};
 ghost use Rattle.ckr_points_tables.specs.RunJobs.{continued_view, effective, own_of, plain_view, IsFitting, IsFittingStep};
 
-use crate::made_names::has_name_from;
 use crate::taken_step::step_of;
 use crate::{OwnStep, TakenSteps};
-use ckr_base::{DsName, NoMemory};
+use ckr_base::NoMemory;
 use ckr_jcl::Job;
 use std::alloc::Global;
 use std::marker::Model;
@@ -73,14 +72,6 @@ impl EffectiveJob {
         ensures { result ≡ self.now.earlier_step }
     {
         self.earlier_step
-    }
-
-    /// Whether one of its steps has the data set of a name, for the run of this number.
-    pub fn has_name(&self, run: u32, name: &DsName) -> bool
-        requires { IsFitting (effective run self.now) }
-        ensures { result ≡ is_among (names_of_job (effective run self.now)) name.now }
-    {
-        has_name_from(self, run, 0, name)
     }
 
     /// The job of a run with this deck that continues an earlier run, of this number and job, at a step: it takes over the steps up to

@@ -9,18 +9,17 @@ ghost use Rattle.ckr_points_tables.specs.MadeNames.{earlier_flags, made_at, made
 ghost use Rattle.ckr_points_tables.specs.RunChange.{earlier_for, earlier_now};
 ghost use Rattle.ckr_points_tables.specs.RunJobs.{effective, names_in, own_of, IsFitting};
 ghost use Rattle.ckr_points_tables.specs.View.{facts_of, point_of};
-ghost use Rattle.ckr_uses.specs.SetNames.{library_name};
 
 use crate::start::point_at;
 use crate::step_end::step_now;
 use crate::tables::{place_of, table_at};
 use crate::{EffectiveJob, OwnStep, RunTable, StepPoint, step_at};
 use arrayvec::ArrayVec;
-use ckr_base::{DsName, Name8};
+use ckr_base::DsName;
 use ckr_events::Event;
 use ckr_jcl::{Dd, Step};
 use ckr_points::is_marked_absent;
-use ckr_uses::library_name;
+use ckr_uses::{has_set_named, library_name};
 
 /// Whether the step of this number made a name.
 fn made_at(points: &[StepPoint], step: u8, name: &DsName) -> bool
@@ -32,18 +31,6 @@ fn made_at(points: &[StepPoint], step: u8, name: &DsName) -> bool
     }
 }
 
-/// Whether the data set of a DD has this name, for a DD of the step of that name.
-pub(crate) fn is_named(dd: &Dd, root: u32, owner: u32, step: &Name8, name: &DsName) -> bool
-    requires root { root ≤ 9999999 }
-    requires owner { owner ≤ 9999999 }
-    ensures { result ≡ option_map_or (same_name name.now) (library_name dd.now root owner step.now) false }
-{
-    match library_name(dd, root, owner, step) {
-        Some(other) => name.is_same(&other),
-        None => false,
-    }
-}
-
 /// Whether one of a step's DDs has the data set of this name.
 pub(crate) fn is_any_named(root: u32, owner: u32, step: &Step, dds: &[Dd], name: &DsName) -> bool
     requires root { root ≤ 9999999 }
@@ -51,7 +38,7 @@ pub(crate) fn is_any_named(root: u32, owner: u32, step: &Step, dds: &[Dd], name:
     ensures { result ≡ list_any (λ dd. option_map_or (same_name name.now) (name_of root (owned step.now owner []) dd) false) dds.now }
 {
     dds.iter()
-        .any(|dd| is_named(dd, root, owner, &step.name, name))
+        .any(|dd| has_set_named(dd, root, owner, &step.name, name))
 }
 
 /// Whether a step has the name.

@@ -22,7 +22,7 @@ ghost use Rattle.ckr_points_tables.specs.View.{facts_of, seen_by, table_of, writ
 
 use crate::continuation::resumption_for;
 use crate::event::put_at;
-use crate::made_names::{has_name, has_name_from, is_named};
+use crate::made_names::{has_name, has_name_from};
 use crate::put_back::{delete_made, put_back_catalog, put_back_lengths};
 use crate::restart::go_on;
 use crate::run_marks::own_from;
@@ -33,7 +33,7 @@ use ckr_entry::{Mark, Passed, Present};
 use ckr_jcl::{Dd, Job, Origin, Step};
 use ckr_library::{DataSet, Library, Stamp};
 use ckr_points::present_at;
-use ckr_uses::library_name;
+use ckr_uses::{has_set_named, library_name};
 
 /// Whether the data set of a DD is for the printer.
 fn is_sysout(origin: &Origin) -> bool
@@ -49,7 +49,7 @@ fn is_any_sysout(root: u32, own: &OwnStep<'_>, dds: &[Dd], name: &DsName) -> boo
     ensures { result ≡ list_any (λ (dd : DdOfStep). is_sysout dd.origin && option_map_or (same_name name.now) (name_of root (own_of own.now) dd) false) dds.now }
 {
     dds.iter().any(|dd| {
-        is_sysout(&dd.origin) && is_named(dd, root, own.owner, &own.step.name, name)
+        is_sysout(&dd.origin) && has_set_named(dd, root, own.owner, &own.step.name, name)
     })
 }
 

@@ -93,12 +93,13 @@ pub fn library_name(dd: &Dd, root: u32, owner: u32, step: &Name8) -> Option<DsNa
     name_under(dd, &run_name(root), &run_name(owner), step)
 }
 
-/// Whether the data set of a DD has this name, for a DD of the step of that name of a run that continues none.
-pub fn has_set_named(dd: &Dd, run: u32, step: &Name8, name: &DsName) -> bool
-    requires { run ≤ 9999999 }
-    ensures { result ≡ option_map_or (same_name name.now) (library_name dd.now run run step.now) false }
+/// Whether the data set of a DD has this name, for a DD of the step of that name. The numbers are those of [`library_name`].
+pub fn has_set_named(dd: &Dd, root: u32, owner: u32, step: &Name8, name: &DsName) -> bool
+    requires root { root ≤ 9999999 }
+    requires owner { owner ≤ 9999999 }
+    ensures { result ≡ option_map_or (same_name name.now) (library_name dd.now root owner step.now) false }
 {
-    match library_name(dd, run, run, step) {
+    match library_name(dd, root, owner, step) {
         Some(other) => name.is_same(&other),
         None => false,
     }

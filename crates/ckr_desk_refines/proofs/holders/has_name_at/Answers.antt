@@ -1,14 +1,9 @@
-use Rattle.std.proofs.Common.{◌-◌, ◌∙◌, ap, false, sym, ℕ, Option}
+use Rattle.std.proofs.Common.{◌-◌, ◌∙◌, ap, [], sym, ℕ, Option}
 use Rattle.std.specs.Prelude.{slice_get}
-use Rattle.std.specs.List.{list_any}
-use Rattle.std.specs.Option.{option_map_or}
-use Rattle.ckr_base.proofs.Sequences.{any-filter_map}
 use Rattle.ckr_desk_memory.specs.Model.RunJobs.{effective, names_in, own_of}
-use Rattle.ckr_jcl.specs.declared.deck.Dd.{Dd}
 use Rattle.ckr_jcl.specs.declared.deck.Job.{Job}
-use Rattle.ckr_library.specs.NameMaps.{same_name}
-use Rattle.ckr_meaning.specs.EffectiveJob.{OwnedStep, is_among, name_of}
-use Rattle.ckr_uses.specs.SetNames.{library_name}
+use Rattle.ckr_meaning.specs.EffectiveJob.{OwnedStep, is_among, names_of}
+use Rattle.ckr_points_library.specs.Holdings.{owned}
 use Rattle.ckr_desk_refines.proofs.Listing.HeldNames.{submitted-at, submitted-no-own, submitted-no-step}
 use Rattle.ckr_desk_refines.proofs.holders.has_name_at.Goals as goal
 
@@ -26,8 +21,7 @@ returns-in-Some-step_at c =
     let own : OwnedStep = own_of c.in-Some-step_at.own in
     let said : OwnedStep = record own { step = step } in
     c.has_name.ensures
-    ∙ ap (λ (root : ℕ). list_any (λ (dd : Dd). option_map_or (same_name name) (library_name dd root own.owner step.name) false) step.dds) c.root.ensures
-    ∙ sym (any-filter_map (name_of job.root said) (same_name name) step.dds)
+    ∙ ap (λ (root : ℕ). is_among (names_of root (owned step own.owner [])) name) c.root.ensures
     ∙ ap (λ (found : Option OwnedStep). is_among (names_in job.root found) name)
     (sym (
     submitted-at job.deck (effective c.args.run job) c.args.number step own c.requires.first (sym (c.in-Some.ensures ∙ ap (λ (deck : Job). slice_get deck.steps (c.args.number - 1)) c.deck.ensures))
