@@ -35,7 +35,8 @@ fn is_any_named(root: u32, owner: u32, step: &Name8, dds: &[Dd], name: &DsName) 
     requires owner { owner ≤ 9999999 }
     ensures { result ≡ list_any (λ (dd : DdOfStep). option_map_or (same_name name.now) (library_name dd root owner step.now) false) dds.now }
 {
-    dds.iter().any(|dd| has_set_named(dd, root, owner, step, name))
+    dds.iter()
+        .any(|dd| has_set_named(dd, root, owner, step, name))
 }
 
 /// Whether a step has the name, with these numbers of the run's root and of the run that owns the step.
