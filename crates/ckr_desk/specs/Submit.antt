@@ -1,5 +1,5 @@
 -- What becomes of a deck that is submitted, and of a run that is to be purged or released.
-use Rattle.std.specs.Prelude.{ℕ, suc, Bool, if◌then◌else◌, List, length, Option, None, Some}
+use Rattle.std.specs.Prelude.{ℕ, suc, Bool, nat_le, if◌then◌else◌, List, length, Option, None, Some}
 use Rattle.ckr_events.specs.declared.event.Event.TheVariants.{Submitted as SubmittedEvent, Purged as PurgedEvent, Released as ReleasedEvent}
 use Rattle.ckr_jcl.specs.declared.deck.Job.{Job as JobOfDeck}
 use Rattle.ckr_points.specs.declared.run.RunState.TheVariants.{Held, Queued}
@@ -10,16 +10,15 @@ use Rattle.ckr_desk_turn.specs.Model.Cards.{kept_of_stored}
 use Rattle.ckr_desk_turn.specs.Model.Submissions.{submission_of}
 use Rattle.ckr_desk_turn.specs.Model.Submission.{Submission}
 use Rattle.ckr_desk_turn.specs.Model.Submission.TheVariants as Decks
-use Rattle.ckr_points_tables.specs.Invariant.{is_submittable}
 use Rattle.ckr_desk_turn.specs.declared.reply.Submitted.{Submitted}
 use Rattle.ckr_desk_turn.specs.declared.reply.Submitted.TheVariants.{Job, Refused}
 
 abbrev pub next_number : TablesModel → ℕ
 next_number tables = suc (length tables.runs)
 
--- the number that a deck's job gets, unless the deck may not be submitted under it: an accepted one may, up to seven digits
-unfoldable pub number_for : TablesModel → JobOfDeck → Option ℕ
-number_for tables deck = if is_submittable (next_number tables) deck then Some (next_number tables) else None
+-- the number that the job of an accepted deck gets: the next one, if it has at most seven digits
+unfoldable pub job_number : TablesModel → Option ℕ
+job_number tables = if nat_le (next_number tables) 9999999 then Some (next_number tables) else None
 
 abbrev pub answer_by : Option ℕ → Submitted
 answer_by None = Refused 0 1
@@ -28,7 +27,7 @@ answer_by (Some number) = Job number
 -- the job's number, unless its deck is refused or it gets none
 abbrev pub answer_to : TablesModel → Submission → Submitted
 answer_to tables (Decks.Refused number card) = Refused number card
-answer_to tables (Decks.Accepted deck) = answer_by (number_for tables deck)
+answer_to tables (Decks.Accepted deck) = answer_by (job_number tables)
 
 -- the event of an accepted deck, whose job gets this number
 abbrev pub entered : List ℕ → JobOfDeck → Option ℕ → Option Decked
@@ -38,7 +37,7 @@ entered cards deck (Some number) = Some (SubmittedEvent number (kept_of_stored c
 -- the event of a deck that becomes a job
 abbrev pub call_by : TablesModel → List ℕ → Submission → Option Decked
 call_by tables cards (Decks.Refused number card) = None
-call_by tables cards (Decks.Accepted deck) = entered cards deck (number_for tables deck)
+call_by tables cards (Decks.Accepted deck) = entered cards deck (job_number tables)
 
 unfoldable pub submit_answer : TablesModel → List ℕ → Submitted
 submit_answer tables cards = answer_to tables (submission_of cards)

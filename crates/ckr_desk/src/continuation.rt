@@ -1,6 +1,6 @@
 //! A run that goes on at a checkpoint of an earlier one: before it does, the checkpoint's entry is read from the disk.
-ghost use Rattle.std.specs.Prelude.{◌≡◌, ◌==◌, ◌≤◌, ◌<◌, ◌++◌, [], IfErr, IfOk, IsSome, IsTrue, OnOk, None, Ok, false, true};
-ghost use Rattle.std.specs.Option.{option_copied, option_map, option_map_or};
+ghost use Rattle.std.specs.Prelude.{◌≡◌, ◌==◌, ◌≤◌, ◌<◌, ◌++◌, IfErr, IfOk, IsSome, IsTrue, OnOk, None, Ok, false, true};
+ghost use Rattle.std.specs.Option.{option_map, option_map_or};
 ghost use Rattle.ckr_book.specs.Book.{room_of};
 ghost use Rattle.ckr_desk_memory.specs.OwnSteps.{PlanCommits, PlanFollows, PlanLeaves};
 ghost use Rattle.ckr_desk_memory.specs.Plans.{HasDue, IsSpelledPlan, NeedsRoom};
@@ -8,7 +8,7 @@ ghost use Rattle.ckr_entry.specs.Entry.{IsEntry, entry_in};
 ghost use Rattle.ckr_entry.specs.Parts.{entry_of};
 ghost use Rattle.ckr_jcl.specs.declared.deck.Kind.{Kind as KindOf};
 ghost use Rattle.ckr_library.specs.Catalog.{ends_within};
-ghost use Rattle.ckr_library.specs.NameMaps.{EachEntry, Name, entry_at};
+ghost use Rattle.ckr_library.specs.NameMaps.{EachEntry};
 ghost use Rattle.ckr_outside.specs.Disk.{OnlyReads};
 ghost use Rattle.ckr_points.specs.Restart.{syschk_name};
 ghost use Rattle.ckr_points.specs.Rows.{TableSet};
@@ -30,18 +30,17 @@ ghost use Rattle.ckr_desk_turn.specs.declared.reply.Turn.{Turn as TurnOf};
 use crate::entry_reads::{ends_within, kind_number, program_of, put, records_of};
 use crate::kept_point::is_as_kept;
 use crate::{Desk, DeskError};
-use ckr_base::{CheckId, DsName, NoMemory};
+use ckr_base::{CheckId, NoMemory};
 use ckr_console::Operator;
-use ckr_desk_memory::StepPoint;
+use ckr_desk_memory::{StepPoint, entry_of_syschk, run_now, set_of_syschk};
 use ckr_desk_store::Store;
-use ckr_desk_turn::{Plan, Reply};
+use ckr_desk_turn::{Plan, Reply, rule_number};
 use ckr_entry::{EntryError, Point, State, decode_entry};
 use ckr_events::Event;
 use ckr_jcl::{Job, Kind};
 use ckr_library::{DataSet, Kept};
 use ckr_outside::Disk;
-use ckr_points::{Denial, syschk_name};
-use ckr_points_follows::run_now;
+use ckr_points::Denial;
 use ckr_points_tables::{EntryNow, Tables, step_at};
 use ckr_rules::Rule;
 use std::alloc::Global;
@@ -101,50 +100,17 @@ fn continuation_in(plan: &Plan) -> Option<Continuation>
     }
 }
 
-/// The name of the data set of a deck's SYSCHK, if it has one.
-fn set_name(deck: &Job) -> Option<&DsName>
-    requires { names_its_set deck.now.syschk ≡ true }
-    ensures { option_map_or (λ (name : Name). name) (option_copied result) [] ≡ syschk_name deck.now }
-{
-    match &deck.syschk {
-        Some(dd) => syschk_name(dd),
-        None => None,
-    }
-}
-
-/// No data set has an empty name.
-fn no_set_without_name(tables: &Tables)
-    ensures { entry_at tables.now.desk.sets [] ≡ None }
-{
-    if let Some(first) = tables.library().name_at(0) {
-        let _ = first.text();
-    }
-}
-
-/// The first entry of an identifier that the data set of a name keeps, with that data set.
-fn there_under<'a>(tables: &'a Tables, name: &DsName, id: &CheckId) -> Option<KeptThere<'a>>
-    ensures { option_map there_of result ≡ there_under tables.now.desk id.now name.now }
-{
-    let Some(set) = tables.library().get(name) else {
-        return None;
-    };
-    match tables.entry_at(name, id) {
-        Some(entry) => Some(KeptThere { set, entry }),
-        None => None,
-    }
-}
-
-/// The same in the data set of a deck's SYSCHK.
+/// The first entry of an identifier that the data set of a deck's SYSCHK keeps, with that data set.
 fn there_in_syschk<'a>(tables: &'a Tables, deck: &Job, id: &CheckId) -> Option<KeptThere<'a>>
     requires { names_its_set deck.now.syschk ≡ true }
     ensures { option_map there_of result ≡ there_under tables.now.desk id.now (syschk_name deck.now) }
 {
-    match set_name(deck) {
-        Some(name) => there_under(tables, name, id),
-        None => {
-            no_set_without_name(tables);
-            None
-        }
+    let Some(set) = set_of_syschk(tables, deck) else {
+        return None;
+    };
+    match entry_of_syschk(tables, deck, id) {
+        Some(entry) => Some(KeptThere { set, entry }),
+        None => None,
     }
 }
 
@@ -319,18 +285,6 @@ fn judged_point<D: Disk>(
     }
 }
 
-/// The number of a rule that tells what is wrong with an entry.
-fn number_of(rule: Rule) -> u8
-    requires { IsEntryRule rule }
-    ensures { result ≡ rule_number rule }
-{
-    match rule {
-        Rule::D3 => 19,
-        Rule::D7 => 23,
-        _ => unreachable!(),
-    }
-}
-
 /// The restart is denied by a rule that tells what is wrong with an entry.
 fn denied(job: u32, rule: Rule) -> Plan
     requires { IsEntryRule rule }
@@ -349,7 +303,7 @@ fn denied(job: u32, rule: Rule) -> Plan
         },
         event: Event::Denied {
             job,
-            rule: number_of(rule),
+            rule: rule_number(rule),
             name: None,
         },
     }

@@ -1,11 +1,10 @@
 //! Decks that are submitted.
-ghost use Rattle.std.specs.Prelude.{◌≡◌, ◌≤◌, ◌<◌, ◌*◌, ◌%◌, ◌++◌, ◌∷◌, [], Err, IfErr, IfOk, IfSome, MatchOption, None, OnOk, Some, length};
+ghost use Rattle.std.specs.Prelude.{◌≡◌, ◌≤◌, ◌<◌, ◌*◌, ◌%◌, ◌++◌, ◌∷◌, [], Err, IfErr, IfOk, IfSome, None, OnOk, Some, length};
 ghost use Rattle.ckr_events.specs.declared.event.Event.TheVariants as Events;
 ghost use Rattle.ckr_events.specs.Event.{spelling};
 ghost use Rattle.ckr_outside.specs.Disk.{EachSince, Only};
 ghost use Rattle.ckr_desk_refines.specs.Moves.{HasSameRecords};
 ghost use Rattle.ckr_desk_turn.specs.Model.Cards.{kept_of_stored};
-ghost use Rattle.ckr_points_tables.specs.Invariant.{IsAnySubmittable};
 ghost use Rattle.ckr_desk_store.specs.OpenImages.{event_records};
 ghost use Rattle.ckr_desk_turn.specs.Model.Submissions.{submission_of};
 ghost use Rattle.ckr_desk_turn.specs.Model.Submission.TheVariants as Decks;
@@ -14,24 +13,21 @@ ghost use Rattle.ckr_desk.specs.Requests.{TellsFull, behind_call, came_by, event
 ghost use Rattle.ckr_desk.specs.Soundness.{IsTrusted, KeepsWithin, state_of};
 ghost use Rattle.ckr_desk.specs.State.{IsOpen, disk_of, layout_of, operator_of, room_left, tables_in_memory};
 ghost use Rattle.ckr_desk.specs.Calls.{HasDone, HasGoneOn, IsLeftBy, IsLeftByCall, IsSettledBehind, NotDone, NotKept, with_event};
-ghost use Rattle.ckr_desk.specs.Submit.{answer_to, call_by, next_number, number_for, submit_answer, submit_call};
+ghost use Rattle.ckr_desk.specs.Submit.{answer_to, call_by, job_number, next_number, submit_answer, submit_call};
 
 use crate::{Desk, DeskError};
 use ckr_console::Operator;
 use ckr_desk_turn::{Submission, Submitted, submission_of, submitted_event};
 use ckr_jcl::Job;
 use ckr_outside::Disk;
-use ckr_points_tables::is_submittable;
 
 impl<D: Disk, O: Operator> Desk<D, O> {
-    /// The number that a deck's job gets, which is the next one. `None` exactly where the deck may not be submitted under it: an accepted
-    /// deck may, if the number has at most seven digits (this project's profile).
-    fn number_for(&self, job: &Job) -> Option<u32>
-        ensures number { result ≡ number_for self.now.jobs.tables.desk job.now }
-        ensures fits { MatchOption result (Unit {0}) (λ number. IsAnySubmittable number (Some job.now)) }
+    /// The number that the next job gets. `None` exactly where it would have eight digits (this project's profile).
+    fn job_number(&self) -> Option<u32>
+        ensures { result ≡ job_number self.now.jobs.tables.desk }
     {
         let number = self.jobs.runs().len() as u32 + 1;
-        if is_submittable(number, job) {
+        if number <= 9_999_999 {
             Some(number)
         } else {
             None
@@ -44,7 +40,7 @@ impl<D: Disk, O: Operator> Desk<D, O> {
         requires some { 81 ≤ length cards.now }
         requires few { length cards.now < 81 * 4294967295 }
         requires accepted { submission_of cards.now ≡ Decks.Accepted job }
-        requires fits { IsAnySubmittable number (Some job) }
+        requires digits { number ≤ 9999999 }
         ensures done { OnOk result (HasGoneOn (Events.Submitted number (kept_of_stored cards.now)) (Some job) self.old self.new) }
         ensures told { D.told → OnOk result (event_records self.old.store.layout (D.content self.new.store.disk)
             ≡ event_records self.old.store.layout (D.content self.old.store.disk) ++ spelling (Events.Submitted number (kept_of_stored cards.now)) ∷ []) }
@@ -80,7 +76,7 @@ impl<D: Disk, O: Operator> Desk<D, O> {
         ensures operator { self.new.operator ≡ self.old.operator }
         ensures cause { IfErr result (NotDone D.faults (call_by self.old.jobs.tables.desk cards.now (Decks.Accepted job)) self.old self.new) }
     {
-        let Some(number) = self.number_for(&job) else {
+        let Some(number) = self.job_number() else {
             return Ok(Submitted::Refused { number: 0, card: 1 });
         };
         self.enter_deck(cards, number, job)?;
@@ -139,6 +135,8 @@ impl<D: Disk, O: Operator> Desk<D, O> {
         ensures answer { IfOk result (λ answer. answer ≡ submit_answer (tables_in_memory self.old) cards.now) }
         ensures comes { IsTrusted D.told D.content D.may_leave self.old → HasComeTo D.told D.content D.may_leave (event_in (submit_call (tables_in_memory self.old) cards.now))
             (behind_call (state_of D.content self.old) (submit_call (tables_in_memory self.old) cards.now)) self.old self.new result }
+        // No book has room for so many decks that the next job gets no number, so on such a disk number 0 doesn't come.
+        ensures numbered { IsTrusted D.told D.content D.may_leave self.old → job_number (tables_in_memory self.old) ≡ Some (next_number (tables_in_memory self.old)) }
         ensures told { D.told → OnOk result (event_records (layout_of self.old) (D.content (disk_of self.new))
             ≡ event_records (layout_of self.old) (D.content (disk_of self.old)) ++ spelled (event_in (submit_call (tables_in_memory self.old) cards.now))) }
         ensures full { IfErr result (TellsFull (room_left self.old) (event_in (submit_call (tables_in_memory self.old) cards.now))) }

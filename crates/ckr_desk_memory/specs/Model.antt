@@ -3,6 +3,7 @@ pub use Rattle.ckr_points_follows.specs.RewriteCounts
 pub use Rattle.ckr_points_library.specs.Holdings
 pub use Rattle.ckr_points_library.specs.declared.cause.Cause
 pub use Rattle.ckr_points_library.specs.declared.cause.Refusal
+pub use Rattle.ckr_points_tables.specs.Invariant
 pub use Rattle.ckr_points_tables.specs.RunJobs
 pub use Rattle.ckr_points_tables.specs.RunRows
 pub use Rattle.ckr_points_tables.specs.View

@@ -13,7 +13,7 @@ ghost use Rattle.ckr_points_tables.specs.Entries.{entry_in};
 ghost use Rattle.ckr_rules.specs.RuleTables.{rule_number};
 
 use ckr_base::{CheckId, DsName, Name8};
-use ckr_desk_turn::{Plan, Reply, selected_event};
+use ckr_desk_turn::{Plan, Reply, rule_number, selected_event};
 use ckr_events::Event;
 use ckr_jcl::Restart;
 use ckr_points::Denial;
@@ -23,31 +23,6 @@ use ckr_points_follows::{
 use ckr_points_tables::{EntryNow, Tables};
 use ckr_rules::{Rule, Verdict, deferred};
 use ckr_volumes::Layout;
-
-/// The number of a rule.
-fn rule_number(rule: Rule) -> u8
-    ensures value { result ≡ rule_number rule }
-    ensures most { result ≤ 26 }
-{
-    match rule {
-        Rule::A1 => 1,
-        Rule::A2 => 2,
-        Rule::A3 => 3,
-        Rule::A4 => 4,
-        Rule::A5 => 5,
-        Rule::A6 => 6,
-        Rule::D1 => 17,
-        Rule::D2 => 18,
-        Rule::D3 => 19,
-        Rule::D4 => 20,
-        Rule::D5 => 21,
-        Rule::D6 => 22,
-        Rule::D7 => 23,
-        Rule::D8 => 24,
-        Rule::D9 => 25,
-        Rule::D10 => 26,
-    }
-}
 
 /// The same name of a data set, or none.
 fn copy_of_name(name: &Option<DsName>) -> Option<DsName>

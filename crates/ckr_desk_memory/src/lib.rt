@@ -41,5 +41,7 @@ pub use set_copy::copy_of_set;
 pub use sharing::shared_deck;
 
 // What the desk asks of the tables beside the jobs.
-pub use ckr_points_follows::{may_count, purged_follows, released_follows};
-pub use ckr_points_tables::Tables;
+pub use ckr_points_follows::{
+    entry_of_syschk, may_count, purged_follows, released_follows, run_now, set_of_syschk,
+};
+pub use ckr_points_tables::{EffectiveJob, Tables, step_at};

@@ -1,3 +1,4 @@
 pub mod Bytes
 pub mod Sets
 pub mod Events
+pub mod Runs

@@ -1,7 +1,7 @@
--- How many data sets and rewrites events can have added.
+-- How many data sets, rewrites and runs events can have added.
 use Rattle.std.specs.Prelude.{◌≤◌, ℕ, suc, List, length, sum_by}
 use Rattle.ckr_events.specs.declared.event.Event.{Event}
-use Rattle.ckr_events.specs.declared.event.Event.TheVariants.{Started}
+use Rattle.ckr_events.specs.declared.event.Event.TheVariants.{Started, Submitted}
 use Rattle.ckr_points.specs.Restart.{Decked}
 use Rattle.ckr_points.specs.Rows.{TableSet}
 
@@ -12,6 +12,14 @@ added_by _ = 1
 
 abbrev pub added_by_all : List Decked → ℕ
 added_by_all events = sum_by (λ event. added_by event.0) events
+
+-- only a deck that is submitted adds a run
+abbrev pub decks_of : Event → ℕ
+decks_of (Submitted job cards) = 1
+decks_of _ = 0
+
+abbrev pub decks_in : List Decked → ℕ
+decks_in events = sum_by (λ event. decks_of event.0) events
 
 -- the stamp of a data set tells at most so many rewrites
 abbrev pub HasRewrites : ℕ → TableSet → Type 0

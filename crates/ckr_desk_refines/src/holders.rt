@@ -10,10 +10,9 @@ ghost use Rattle.ckr_points.specs.Rows.{run_of, RunRow};
 ghost use Rattle.ckr_desk_refines.specs.Holders.{as_submitted, is_held_in, names_held, syschk_names};
 
 use ckr_base::DsName;
-use ckr_desk_memory::Tables;
+use ckr_desk_memory::{EffectiveJob, Tables, step_at};
 use ckr_jcl::{Job, Step};
 use ckr_points::{Run, RunState, has_name, syschk_name};
-use ckr_points_tables::{EffectiveJob, step_at};
 
 /// Whether a run in this state holds its names: it is selected and not ended.
 fn is_holder(state: RunState) -> bool

@@ -19,7 +19,7 @@ pub use checkpoint_laws::{
     checkpoints_in_memory_are_those_of_the_desk, desks_behind_checkpoints_stand,
     entries_are_committed_with_their_event, steps_that_stand_are_as_far,
 };
-pub use count_laws::sound_events_add_few;
+pub use count_laws::{sound_events_add_a_run_for_each_deck, sound_events_add_few};
 pub use data_sets::{Listed, free_set, is_held, set_at};
 pub use durable_laws::{
     events_commit_what_a_step_has_written, events_leave_what_is_committed,

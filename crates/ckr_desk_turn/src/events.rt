@@ -115,9 +115,10 @@ pub fn restarted_event(job: u32, initiator: u8, code: Code, checkpoint: bool) ->
     }
 }
 
-/// The number of a rule of automatic restarts.
-fn rule_number(rule: Rule) -> u8
-    ensures { result ≡ rule_number rule }
+/// The number by which events tell a rule.
+pub fn rule_number(rule: Rule) -> u8
+    ensures value { result ≡ rule_number rule }
+    ensures most { result ≤ 26 }
 {
     match rule {
         Rule::A1 => 1,

@@ -30,8 +30,8 @@ pub use entry_form_laws::{
 pub use event_laws::{events_between_steps_may_come, events_of_calls_may_come};
 pub use events::{
     allocation_event, cancelled_event, checkpointed_event, coded_event, completed_event,
-    held_event, purged_event, released_event, restarted_event, rewritten_event, selected_event,
-    started_event, step_ended_event,
+    held_event, purged_event, released_event, restarted_event, rewritten_event, rule_number,
+    selected_event, started_event, step_ended_event,
 };
 pub use failed_run::FailedRun;
 pub use inquiry::Inquiry;

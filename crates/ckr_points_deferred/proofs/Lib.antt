@@ -1,4 +1,5 @@
 pub mod LatestRuns
 pub mod RunFacts
 pub mod SetNames
+pub mod SetViews
 pub mod StepNumbers

@@ -5,5 +5,4 @@ pub mod RewriteCounts
 pub mod Outputs
 pub mod Rewrites
 pub mod Selects
-pub mod SetViews
 pub mod Starts

@@ -14,11 +14,11 @@ ghost use Rattle.ckr_points_deferred.specs.Runs.{row_now, IsRunNow};
 
 use crate::lengths::lengths_follow;
 use crate::runs::is_running;
-use crate::steps::{own_step, set_of};
+use crate::steps::own_step;
 use ckr_base::{CheckId, DsName};
 use ckr_jcl::{Dd, Step};
 use ckr_library::Kept;
-use ckr_points_deferred::{RunNow, run_now};
+use ckr_points_deferred::{RunNow, run_now, set_of};
 use ckr_points_library::{has_text, output_name};
 use ckr_points_tables::{OwnStep, Tables, checkpoint_name};
 

@@ -5,10 +5,10 @@ ghost use Rattle.ckr_points.specs.Follows.{are_lengths, lengths_follow};
 ghost use Rattle.ckr_points_follows.specs.Lengths.{fits, outputs_from};
 ghost use Rattle.ckr_points_deferred.specs.Runs.{row_now, IsRunNow};
 
-use crate::steps::{own_step, set_of};
+use crate::steps::own_step;
 use ckr_base::DsName;
 use ckr_jcl::{Dd, Step};
-use ckr_points_deferred::RunNow;
+use ckr_points_deferred::{RunNow, set_of};
 use ckr_points_library::output_name;
 use ckr_points_tables::Tables;
 

@@ -35,5 +35,6 @@ pub use submit::submitted_follows;
 
 /// A run with RESTART as it is judged, for the crates above this one.
 pub use ckr_points_deferred::{
-    RunNow, WantedNow, deferred_case, denial_of, earlier_number, run_now, wanted_of,
+    RunNow, WantedNow, deferred_case, denial_of, earlier_number, entry_of_syschk, run_now,
+    set_of_syschk, wanted_of,
 };

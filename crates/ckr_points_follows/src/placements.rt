@@ -12,11 +12,10 @@ ghost use Rattle.ckr_points_tables.specs.RunJobs.{own_of};
 ghost use Rattle.ckr_points_follows.specs.Placements.{placed_list, placed_now};
 ghost use Rattle.ckr_points_deferred.specs.Runs.{row_now, IsRunNow};
 
-use crate::steps::set_of;
 use arrayvec::ArrayVec;
 use ckr_base::DsName;
 use ckr_jcl::Dd;
-use ckr_points_deferred::RunNow;
+use ckr_points_deferred::{RunNow, set_of};
 use ckr_points_library::{Allotment, allotment_of, is_passed};
 use ckr_points_tables::{OwnStep, Tables};
 use ckr_uses::library_name;

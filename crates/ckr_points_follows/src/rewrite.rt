@@ -9,10 +9,10 @@ ghost use Rattle.ckr_points_deferred.specs.Runs.{row_now, IsRunNow};
 
 use crate::lengths::lengths_follow;
 use crate::runs::is_running;
-use crate::steps::{own_step, set_of};
+use crate::steps::own_step;
 use ckr_base::DsName;
 use ckr_jcl::{Kind, Step};
-use ckr_points_deferred::{RunNow, run_now};
+use ckr_points_deferred::{RunNow, run_now, set_of};
 use ckr_points_tables::{OwnStep, Tables, master_name};
 
 /// Whether a data set has a record at this place, and records of this length.

@@ -1,18 +1,15 @@
-//! The steps of a run, and the data sets of the tables.
+//! The steps of a run.
 ghost use Rattle.std.specs.Prelude.{◌≡◌, IfSome};
-ghost use Rattle.std.specs.Option.{option_copied, option_map};
-ghost use Rattle.ckr_library.specs.NameMaps.{entry_at};
+ghost use Rattle.std.specs.Option.{option_map};
 ghost use Rattle.ckr_points.specs.Follows.{own_step};
-ghost use Rattle.ckr_points.specs.Rows.{step_of_run, TableSet};
+ghost use Rattle.ckr_points.specs.Rows.{step_of_run};
 ghost use Rattle.ckr_points_tables.specs.RunJobs.{own_of, IsFitting, IsFittingStep};
 ghost use Rattle.ckr_points_deferred.specs.Runs.{row_now};
 
 use crate::runs::place_of;
-use ckr_base::DsName;
-use ckr_library::DataSet;
 use ckr_points::step_in;
 use ckr_points_deferred::RunNow;
-use ckr_points_tables::{OwnStep, Tables, step_at};
+use ckr_points_tables::{OwnStep, step_at};
 
 /// A step of a run by its number, from 1.
 pub(crate) fn step_of<'a>(run: &RunNow<'a>, step: u8) -> Option<OwnStep<'a>>
@@ -28,11 +25,4 @@ pub(crate) fn own_step<'a>(run: &RunNow<'a>) -> Option<OwnStep<'a>>
     ensures fitting { IsFitting (row_now run.now).job → IfSome result (λ own. IsFittingStep (own_of own)) }
 {
     step_of(run, step_in(place_of(run)))
-}
-
-/// The data set of a name.
-pub(crate) fn set_of<'a>(tables: &'a Tables, name: &DsName) -> Option<&'a DataSet>
-    ensures { option_copied result ≡ option_map (λ (table : TableSet). table.set) (entry_at tables.now.desk.sets name.now) }
-{
-    tables.library().get(name)
 }

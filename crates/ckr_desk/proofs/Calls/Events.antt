@@ -1,8 +1,6 @@
 -- A call that is one event with its deck, on a trusted disk.
-use Rattle.std.proofs.Common.{◌≡◌, ◌≤◌, ◌+◌, ◌-◌, ◌++◌, ℕ, nat_le, suc, List, [], ◌∷◌, true, length, refl, ap, sym, ◌∙◌, subst, ⊎_elim, arith, Option, Some, None, Ok}
+use Rattle.std.proofs.Common.{◌≡◌, ◌≤◌, ◌+◌, ◌-◌, ◌++◌, ℕ, suc, List, [], ◌∷◌, true, length, refl, ap, sym, ◌∙◌, subst, ⊎_elim, arith, Option, Some, None, Ok}
 use Rattle.std.proofs.lemmas.Bool.{and_from, le-leb}
-use Rattle.ckr_base.proofs.Bools.{and-first}
-use Rattle.ckr_base.proofs.Numbers.{nat_le-true}
 use Rattle.ckr_base.proofs.Options.{some-not-none}
 use Rattle.ckr_book.specs.Book.{IsBeforeOrAfter, room_of}
 use Rattle.ckr_base.proofs.Numbers.{nat_le-from}
@@ -29,7 +27,6 @@ use Rattle.ckr_desk_refines.specs.Standing.{StandsForDesk}
 use Rattle.ckr_desk_store.specs.OpenImages.{Opens, event_records}
 use Rattle.ckr_desk_turn.proofs.KeptCards.{kept_accepted}
 use Rattle.ckr_desk_turn.specs.Model.Cards.{kept_of_stored}
-use Rattle.ckr_points_tables.specs.Invariant.{is_submittable}
 use Rattle.ckr_desk_refines.proofs.Events.Turns.{purged-committed, purged-stands, release-stands, released-committed, submitted-committed, submitted-stands}
 use Rattle.ckr_desk_turn.specs.Desk.{DeskModel, behind}
 use Rattle.ckr_volumes.specs.declared.layout.Layout.{Layout}
@@ -41,10 +38,6 @@ use Rattle.ckr_desk.specs.Calls.{HasGoneOn, IsLeftBy, may_keep}
 use Rattle.ckr_desk.specs.Rewrite.{OpensSame}
 use Rattle.ckr_desk.specs.Soundness.{HasKept, IsTrusted, office_on, state_of}
 use Rattle.ckr_desk.specs.State.{RoomyDesk, DeskView, need_of}
-
--- the number of a run that may be submitted has at most seven digits
-pub submittable-small : (number : ℕ) (deck : Job) → is_submittable number deck ≡ true → number ≤ 9999999
-submittable-small number deck fits = nat_le-true number 9999999 (and-first (nat_le number 9999999) _ (and-first _ _ (and-first _ _ (and-first _ _ fits))))
 
 module _ {D : Type 0} (told : Type 0) (content : D → List ℕ) (may_leave : D → List ℕ → Type 0) (size : D → ℕ)
     (old : DeskView D) (trusted : IsTrusted told content may_leave old) where
@@ -134,16 +127,16 @@ module _ {D : Type 0} (told : Type 0) (content : D → List ℕ) (may_leave : D 
 
   -- ---- a deck that is submitted
 
-  pub called-deck : (cards : List ℕ) (deck : Job) → 81 ≤ length cards → stored_deck cards ≡ Ok deck → is_submittable (suc (length old.jobs.tables.desk.runs)) deck ≡ true
+  pub called-deck : (cards : List ℕ) (deck : Job) → 81 ≤ length cards → stored_deck cards ≡ Ok deck → suc (length old.jobs.tables.desk.runs) ≤ 9999999
       → IsEvent (Submitted (suc (length old.jobs.tables.desk.runs)) (kept_of_stored cards))
       → IsCalled (Submitted (suc (length old.jobs.tables.desk.runs)) (kept_of_stored cards)) (Some deck)
-  called-deck cards deck some accepted fit is_event =
+  called-deck cards deck some accepted digits is_event =
       let number : suc (length old.jobs.tables.desk.runs) ≡ suc (length desk.office.tables.runs) = ap (λ t. suc (length t.runs)) trusted.stands.tables in
-      let few : suc (length desk.office.tables.runs) ≤ 9999999 = subst (λ n. n ≤ 9999999) number (submittable-small (suc (length old.jobs.tables.desk.runs)) deck fit) in
+      let few : suc (length desk.office.tables.runs) ≤ 9999999 = subst (λ n. n ≤ 9999999) number digits in
       record {
         is_event = is_event;
         decked = kept_accepted cards deck some accepted;
-        digits = nat_le-from (suc (length old.jobs.tables.desk.runs)) 9999999 (submittable-small (suc (length old.jobs.tables.desk.runs)) deck fit);
+        digits = nat_le-from (suc (length old.jobs.tables.desk.runs)) 9999999 digits;
         quiet = λ tables. refl;
         takes = λ now image. tt;
         next = subst (λ n. IsNext layout desk.office (Submitted n (kept_of_stored cards), Some deck)) (sym number) (stored-comes desk cards deck few some accepted);

@@ -1,8 +1,8 @@
 -- The event of a deck that is submitted under the next number follows on any disk.
-use Rattle.std.proofs.Common.{◌≡◌, ◌≤◌, ◌*◌, ◌/◌, ℕ, List, [], ◌∷◌, Bool, true, false, cond, length, refl, sym, subst, arith, Some, None}
+use Rattle.std.proofs.Common.{◌≡◌, ◌≤◌, ◌*◌, ◌/◌, ℕ, List, [], ◌∷◌, Bool, true, false, cond, length, nat_le, refl, sym, subst, arith, Some, None}
 use Rattle.std.proofs.lemmas.Bool.{and_from}
 use Rattle.std.proofs.lemmas.Option.{same_Some}
-use Rattle.ckr_base.proofs.Numbers.{equal-itself}
+use Rattle.ckr_base.proofs.Numbers.{equal-itself, nat_le-true}
 use Rattle.ckr_base.proofs.Options.{some-not-none}
 use Rattle.ckr_events.specs.declared.event.Event.TheVariants.{Submitted}
 use Rattle.ckr_jcl.specs.declared.deck.Job.{Job}
@@ -10,18 +10,19 @@ use Rattle.ckr_points.specs.Follows.{follows}
 use Rattle.ckr_points.specs.Rows.{TablesModel}
 use Rattle.ckr_desk_turn.proofs.KeptCards.{kept_long}
 use Rattle.ckr_desk_turn.specs.Model.Cards.{kept_of_stored}
-use Rattle.ckr_points_tables.specs.Invariant.{is_submittable}
 use Rattle.ckr_volumes.specs.declared.layout.Layout.{Layout}
-use Rattle.ckr_desk.specs.Submit.{next_number, number_for}
+use Rattle.ckr_desk.specs.Submit.{job_number, next_number}
 
--- a deck that gets a number gets the next one
-pub numbered-next : (tables : TablesModel) (deck : Job) (number : ℕ) → number_for tables deck ≡ Some number → number ≡ next_number tables
-unfolding number_for
-numbered-next tables deck number is = by (is_submittable (next_number tables) deck) is
+-- a job that gets a number gets the next one, of at most seven digits
+pub numbered-next : (tables : TablesModel) (number : ℕ) → job_number tables ≡ Some number → (number ≡ next_number tables) × (number ≤ 9999999)
+unfolding job_number
+numbered-next tables number is = by (nat_le (next_number tables) 9999999) refl is
   where
-    by : (may : Bool) → cond may (Some (next_number tables)) None ≡ Some number → number ≡ next_number tables
-    by true is = sym (same_Some (next_number tables) number is)
-    by false is = absurd (some-not-none number (sym is))
+    by : (few : Bool) → nat_le (next_number tables) 9999999 ≡ few → cond few (Some (next_number tables)) None ≡ Some number → (number ≡ next_number tables) × (number ≤ 9999999)
+    by true few is =
+        let same : next_number tables ≡ number = same_Some (next_number tables) number is in
+        (sym same, subst (λ n. n ≤ 9999999) same (nat_le-true (next_number tables) 9999999 few))
+    by false few is = absurd (some-not-none number (sym is))
 
 kept-follows : (layout : Layout) (tables : TablesModel) (deck : Job) (kept : List ℕ) (count : ℕ) → 1 ≤ count → length kept ≡ 80 * count → follows layout tables (Submitted (next_number tables) kept) (Some deck) ≡ true
 kept-follows layout tables deck [] count some long = absurd (let none : ⊥ = omega (arith, some, long) in none)

@@ -1,6 +1,7 @@
 -- A call that is one event with its deck, or none, on a trusted disk.
-use Rattle.std.proofs.Common.{◌≡◌, ◌==◌, ◌≤◌, ◌++◌, ◌/◌, ℕ, suc, List, [], Bool, true, false, cond, length, refl, ap, sym, ◌∙◌, subst, arith, append-nil, Option, Some, None, Result, Ok, Err, IfErr, OnOk}
+use Rattle.std.proofs.Common.{◌≡◌, ◌==◌, ◌≤◌, ◌++◌, ◌/◌, ℕ, suc, nat_le, List, [], Bool, true, false, cond, length, refl, ap, sym, ◌∙◌, subst, arith, append-nil, Option, Some, None, Result, Ok, Err, IfErr, OnOk}
 use Rattle.std.proofs.lemmas.Bool.{false≢true, le-leb}
+use Rattle.ckr_base.proofs.Numbers.{nat_le-true}
 use Rattle.ckr_book.specs.Book.{room_of}
 use Rattle.ckr_events.specs.declared.event.Event.TheVariants.{Purged, Released}
 use Rattle.ckr_events.specs.Event.{IsEvent}
@@ -21,10 +22,9 @@ use Rattle.ckr_desk_turn.specs.Model.Cards.{kept_of_stored}
 use Rattle.ckr_desk_turn.specs.Model.Submissions.{submission_of}
 use Rattle.ckr_desk_turn.specs.Model.Submission.{Submission}
 use Rattle.ckr_desk_turn.specs.Model.Submission.TheVariants.{Accepted, Refused}
-use Rattle.ckr_points_tables.specs.Invariant.{is_submittable}
 use Rattle.ckr_volumes.specs.declared.layout.Layout.{Layout}
 use Rattle.ckr_desk.proofs.Turns.Preparation.{same-unchanged}
-use Rattle.ckr_desk.proofs.Calls.Events.{IsCalled, called-deck, called-kept, called-purged, called-released, called-state, called-trusted, submittable-small}
+use Rattle.ckr_desk.proofs.Calls.Events.{IsCalled, called-deck, called-kept, called-purged, called-released, called-state, called-trusted}
 use Rattle.ckr_desk.proofs.Calls.CardCounts.{accepted-deck, few-accepted}
 use Rattle.ckr_desk.proofs.Images.Soundness.{kept-left}
 use Rattle.ckr_desk.proofs.Calls.Stops.{opens-so}
@@ -35,7 +35,7 @@ use Rattle.ckr_desk.specs.Calls.{HasDone, IsLeftByCall, IsSettledBehind, NotDone
 use Rattle.ckr_desk.specs.Soundness.{HasKept, IsTrusted, KeepsWithin, state_of}
 use Rattle.ckr_desk.specs.State.{DeskView, need_of}
 use Rattle.ckr_desk.specs.NoChange.{StaysBy}
-use Rattle.ckr_desk.specs.Submit.{call_by, entered, is_held_run, is_queued, number_for, purge_call, release_call, submit_call}
+use Rattle.ckr_desk.specs.Submit.{call_by, entered, is_held_run, is_queued, job_number, purge_call, release_call, submit_call}
 
 -- ---- of each answer
 
@@ -204,21 +204,21 @@ module _ {D : Type 0} (told : Type 0) (content : D → List ℕ) (may_leave : D 
   -- ---- a deck that is submitted
 
   module _ (cards : List ℕ) (some : 81 ≤ length cards) where
-    numbered : (deck : Job) → submission_of cards ≡ Accepted deck → (fits : Bool) → is_submittable (suc (length old.jobs.tables.desk.runs)) deck ≡ fits
-        → IsCalledSo (entered cards deck (cond fits (Some (suc (length old.jobs.tables.desk.runs))) None))
-    numbered deck is false fits = tt
-    numbered deck is true fits =
+    numbered : (deck : Job) → submission_of cards ≡ Accepted deck → (few : Bool) → nat_le (suc (length old.jobs.tables.desk.runs)) 9999999 ≡ few
+        → IsCalledSo (entered cards deck (cond few (Some (suc (length old.jobs.tables.desk.runs))) None))
+    numbered deck is false digits = tt
+    numbered deck is true digits =
         let its = accepted-deck cards deck is in
-        let few = few-accepted cards deck is in
+        let count = few-accepted cards deck is in
         let long = kept_long cards in
-        let number = submittable-small (suc (length old.jobs.tables.desk.runs)) deck fits in
-        let told_so = submitted_spelled (suc (length old.jobs.tables.desk.runs)) (kept_of_stored cards) (length cards / 81) (omega (arith, number)) (omega (arith, some)) long (omega (arith, few)) in
-        called-deck told content may_leave size old trusted cards deck some its fits told_so.event
+        let number : suc (length old.jobs.tables.desk.runs) ≤ 9999999 = nat_le-true (suc (length old.jobs.tables.desk.runs)) 9999999 digits in
+        let told_so = submitted_spelled (suc (length old.jobs.tables.desk.runs)) (kept_of_stored cards) (length cards / 81) (omega (arith, number)) (omega (arith, some)) long (omega (arith, count)) in
+        called-deck told content may_leave size old trusted cards deck some its number told_so.event
 
     submitted : (submission : Submission) → submission_of cards ≡ submission → IsCalledSo (call_by old.jobs.tables.desk cards submission)
-    unfolding number_for
+    unfolding job_number
     submitted (Refused number card) is = tt
-    submitted (Accepted deck) is = numbered deck is (is_submittable (suc (length old.jobs.tables.desk.runs)) deck) refl
+    submitted (Accepted deck) is = numbered deck is (nat_le (suc (length old.jobs.tables.desk.runs)) 9999999) refl
 
     pub submit-called : IsCalledSo (submit_call old.jobs.tables.desk cards)
     unfolding submit_call

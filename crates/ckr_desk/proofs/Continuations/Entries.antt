@@ -10,7 +10,7 @@ use Rattle.ckr_base.proofs.Options.{some-not-none}
 use Rattle.ckr_entry.specs.Entry.{IsEntry, entry_in}
 use Rattle.ckr_entry.specs.Parts.{Entry}
 use Rattle.ckr_jcl.specs.declared.deck.Kind.{Kind}
-use Rattle.ckr_library.specs.Catalog.{Catalog, ends_within, set_of}
+use Rattle.ckr_library.specs.Catalog.{ends_within}
 use Rattle.ckr_library.specs.NameMaps.{EachEntry, Name, entry_at, same_name}
 use Rattle.ckr_library.specs.declared.sets.Kept.{Kept}
 use Rattle.ckr_library.specs.declared.sets.DataSet.{DataSet}
@@ -18,18 +18,15 @@ use Rattle.ckr_library.proofs.Named.{each-at}
 use Rattle.ckr_desk_memory.specs.Parts.{IsPointCounted}
 use Rattle.ckr_desk_memory.specs.View.{PointView}
 use Rattle.ckr_points.specs.Restart.{kept_at, syschk_name}
-use Rattle.ckr_points.specs.Rows.{EntryPoint, KeptEntry, RunRow, TableSet, TablesModel, holding_of, run_of}
+use Rattle.ckr_points.specs.Rows.{EntryPoint, KeptEntry, RunRow, TableSet, TablesModel, run_of}
 use Rattle.ckr_points.specs.Statements.{kind_number}
 use Rattle.ckr_points.specs.Tables.{kept_entry}
 use Rattle.ckr_points_tables.specs.Restart.{point_written}
-use Rattle.ckr_points_tables.specs.View.{seen_by}
 use Rattle.ckr_rules.specs.declared.cases.Rule.{Rule}
 use Rattle.ckr_rules.specs.declared.cases.Rule.TheVariants.{D3, D7}
 use Rattle.ckr_steps.specs.EntryRecords.{bytes_on}
 use Rattle.ckr_steps.specs.Units.{program_of}
 use Rattle.ckr_volumes.specs.declared.layout.Layout.{Layout}
-use Rattle.ckr_desk.proofs.Images.Rewrite.{in-tables}
-use Rattle.ckr_desk.proofs.Openings.EntryRefusals.{none-in-tables}
 use Rattle.ckr_desk.proofs.Openings.Points.{counted-in, kind-same}
 use Rattle.ckr_desk.specs.Continuation.{EntryThere, IsEntryPoint, IsPointFound, entry_there, is_as_kept, is_of_program, judged_point, judged_read, judged_there, program_in, same_counts, same_lists, same_step, there_under}
 use Rattle.ckr_desk.specs.Entries.{point_in}
@@ -41,21 +38,26 @@ there_in set entry = record { set = set; entry = entry }
 
 -- ---- where it is kept
 
-module _ (catalog : Catalog) (tables : TablesModel) (name id : Name) (seen : catalog.sets ≡ seen_by holding_of tables.sets) where
+module _ (tables : TablesModel) (name id : Name) where
   abbrev in_table : TableSet → Option EntryThere
   in_table table = option_map (there_in table.set) (kept_at tables.sets name id)
 
-  -- the library has no data set of the name
-  pub there-none : set_of catalog name ≡ None → None ≡ there_under tables id name
-  there-none none = sym (ap (option_and_then in_table) (none-in-tables catalog tables.sets name seen none))
+  -- there is no data set of the name
+  pub there-none : None ≡ option_map (λ (table : TableSet). table.set) (entry_at tables.sets name) → None ≡ there_under tables id name
+  there-none none = by (entry_at tables.sets name) none
+    where
+      by : (held : Option TableSet) → None ≡ option_map (λ (table : TableSet). table.set) held → None ≡ option_and_then in_table held
+      by None e = refl
+      by (Some table) e = absurd (some-not-none table.set (sym e))
 
-  -- it has this one
-  pub there-some : (set : DataSet) (entry : Option KeptEntry) → set_of catalog name ≡ Some set → entry ≡ kept_at tables.sets name id → option_map (there_in set) entry ≡ there_under tables id name
-  there-some set entry found at =
-      let its = in-tables catalog tables.sets name set seen found in
-      ap (option_map (there_in set)) at
-      ∙ ap (λ (its : DataSet). option_map (there_in its) (kept_at tables.sets name id)) its.same
-      ∙ sym (ap (option_and_then in_table) its.at)
+  -- there is this one
+  pub there-some : (set : DataSet) (entry : Option KeptEntry) → Some set ≡ option_map (λ (table : TableSet). table.set) (entry_at tables.sets name) → entry ≡ kept_at tables.sets name id
+      → option_map (there_in set) entry ≡ there_under tables id name
+  there-some set entry found at = ap (option_map (there_in set)) at ∙ by (entry_at tables.sets name) found
+    where
+      by : (held : Option TableSet) → Some set ≡ option_map (λ (table : TableSet). table.set) held → option_map (there_in set) (kept_at tables.sets name id) ≡ option_and_then in_table held
+      by None e = absurd (some-not-none set e)
+      by (Some table) e = ap (λ (its : DataSet). option_map (there_in its) (kept_at tables.sets name id)) (same_Some set table.set e)
 
 -- ---- what is compared
 

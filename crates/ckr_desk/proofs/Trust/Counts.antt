@@ -1,31 +1,36 @@
--- On a trusted disk the rewrites can always be counted: each data set and each rewrite has taken bytes of the book.
-use Rattle.std.proofs.Common.{◌≡◌, ◌≤◌, ◌<◌, ◌+◌, ◌==◌, ℕ, zero, suc, true, List, [], ◌∷◌, length, drop, nat_le, nat_lt, refl, sym, subst, Result, Ok, Err, arith}
+-- On a trusted disk the rewrites can always be counted, and the next job always has a number: each data set, each rewrite and each deck has taken
+-- bytes of the book.
+use Rattle.std.proofs.Common.{◌≡◌, ◌≤◌, ◌<◌, ◌+◌, ◌*◌, ◌==◌, ◌++◌, ℕ, zero, suc, true, cond, List, [], ◌∷◌, length, drop, nat_le, nat_lt, refl, ap, sym, subst, Some, None, Result, Ok, Err, arith}
 use Rattle.std.specs.List.{list_all, sum_by}
 use Rattle.std.proofs.lemmas.Bool.{and_from, cond-false, cond-true}
 use Rattle.std.proofs.lemmas.Bool.Decides.{nat_tests}
 use Rattle.std.proofs.lemmas.List.{length-take}
 use Rattle.std.proofs.lemmas.List.Sums.{sum_by-append, sum_by-cons}
 use Rattle.ckr_base.proofs.Bools.{and-second, bool-cases}
-use Rattle.ckr_base.proofs.Numbers.{nat_le-true}
+use Rattle.ckr_base.proofs.Numbers.{nat_le-from, nat_le-true}
 use Rattle.ckr_book.specs.Records.{body, body_length, is_whole, records_from}
 use Rattle.ckr_events.specs.declared.event.Event.{Event}
-use Rattle.ckr_events.specs.declared.event.Event.TheVariants.{Rewritten}
+use Rattle.ckr_events.specs.declared.event.Event.TheVariants.{Rewritten, Submitted}
 use Rattle.ckr_events.specs.Event.{event_of}
 use Rattle.ckr_library.specs.NameMaps.{EachEntry, Named}
 use Rattle.ckr_outside.specs.Disk.{part}
 use Rattle.ckr_points.specs.Events.{AreSound}
 use Rattle.ckr_points.specs.Office.{office}
+use Rattle.ckr_points.specs.Restart.{Decked}
 use Rattle.ckr_points.specs.Rows.{TableSet, TablesModel}
 use Rattle.ckr_desk_memory.specs.Model.RewriteCounts.{has_few_rewrites, have_few_rewrites, may_count}
 use Rattle.ckr_volumes.specs.declared.layout.Layout.{Layout}
 use Rattle.ckr_volumes.specs.Header.{IsHeader}
-use Rattle.ckr_desk_refines.proofs.Counts.Bytes.{event-adds}
+use Rattle.ckr_desk_memory.specs.Replay.{deck_of}
+use Rattle.ckr_desk_refines.proofs.Counts.Bytes.{deck-long, event-adds}
 use Rattle.ckr_desk_refines.proofs.Counts.Events.{sound-few}
+use Rattle.ckr_desk_refines.proofs.Counts.Runs.{KeepCards, KeepsCards, sound-cards, sound-runs}
 use Rattle.ckr_desk_refines.proofs.Counts.Sets.{AreFew}
-use Rattle.ckr_desk_refines.specs.Counts.{HasRewrites, added_by, added_by_all}
+use Rattle.ckr_desk_refines.specs.Counts.{HasRewrites, added_by, added_by_all, decks_in, decks_of}
 use Rattle.ckr_desk_store.specs.OpenImages.{event_records}
 use Rattle.ckr_desk.specs.Soundness.{IsTrusted, decked_by, events_in, office_on}
 use Rattle.ckr_desk.specs.State.{DeskView}
+use Rattle.ckr_desk.specs.Submit.{job_number, next_number}
 
 -- ---- the records of a book
 
@@ -54,8 +59,11 @@ book-fits layout image =
     omega (arith, fits, length-take layout.book (drop 512 image))
 
 -- and a book is no longer than a header may say
+pub book-limit : (layout : Layout) (size : ℕ) → IsHeader layout size → layout.book ≤ 268435456
+book-limit layout size header = nat_le-true _ _ (and-second (nat_le 256 layout.book) (nat_le layout.book 268435456) header.book)
+
 pub book-short : (layout : Layout) (size : ℕ) → IsHeader layout size → layout.book ≤ 4294967295
-book-short layout size header = let most : layout.book ≤ 268435456 = nat_le-true _ _ (and-second (nat_le 256 layout.book) (nat_le layout.book 268435456) header.book) in omega (arith, most)
+book-short layout size header = omega (arith, book-limit layout size header)
 
 -- ---- what their events add
 
@@ -108,3 +116,35 @@ module _ {D : Type 0} (told : Type 0) (content : D → List ℕ) (may_leave : D 
   trusted-counted short event =
       any-counted event desk.jobs.tables.desk.sets
       (subst (λ (tables : TablesModel). have_few_rewrites tables.sets ≡ true) (sym trusted.stands.tables) (book-counted desk.store.layout (content desk.store.disk) short trusted.events))
+
+-- ---- whether the next job has a number
+
+one-holds : (bytes : List ℕ) (event : Event) → event_of bytes ≡ Ok event → KeepsCards event → 80 * decks_of event ≤ length bytes
+one-holds bytes (Submitted job cards) is some = omega (arith, deck-long bytes job cards is some)
+one-holds bytes event is some = omega arith
+
+records-hold : (records : List (List ℕ)) → KeepCards (events_in records) → 80 * decks_in (events_in records) ≤ sum_by taken_by records
+records-hold [] each = omega arith
+records-hold (bytes ∷ rest) each = by (event_of bytes) refl each
+  where
+    by : (read : Result Event ℕ) → event_of bytes ≡ read → KeepCards (decked_by read ++ events_in rest) → 80 * decks_in (decked_by read ++ events_in rest) ≤ sum_by taken_by (bytes ∷ rest)
+    by (Ok event) is each =
+        omega (arith, sum_by-cons (λ (one : Decked). decks_of one.0) (event, deck_of event) (events_in rest), sum_by-cons taken_by bytes rest, one-holds bytes event is each.0, records-hold rest each.1)
+    by (Err offset) is each = omega (arith, sum_by-cons taken_by bytes rest, records-hold rest each)
+
+-- a book has room for some three million decks
+book-numbered : (layout : Layout) (image : List ℕ) → layout.book ≤ 268435456 → AreSound layout (events_in (event_records layout image)) → length (office_on layout image).tables.runs ≤ 3355443
+unfolding office_on
+book-numbered layout image short sound =
+    let events = events_in (event_records layout image) in
+    let held : 80 * decks_in events ≤ sum_by taken_by (event_records layout image) = records-hold (event_records layout image) (sound-cards layout events sound) in
+    let many : length (office events).tables.runs ≡ decks_in events = sound-runs layout events sound in
+    omega (arith, short, book-fits layout image, held, many)
+
+module _ {D : Type 0} (told : Type 0) (content : D → List ℕ) (may_leave : D → List ℕ → Type 0) (desk : DeskView D) (trusted : IsTrusted told content may_leave desk) where
+  pub trusted-numbered : desk.store.layout.book ≤ 268435456 → job_number desk.jobs.tables.desk ≡ Some (next_number desk.jobs.tables.desk)
+  unfolding job_number
+  trusted-numbered short =
+      let few : length desk.jobs.tables.desk.runs ≤ 3355443 =
+      subst (λ (tables : TablesModel). length tables.runs ≤ 3355443) (sym trusted.stands.tables) (book-numbered desk.store.layout (content desk.store.disk) short trusted.events) in
+      ap (λ b. cond b (Some (next_number desk.jobs.tables.desk)) None) (nat_le-from (next_number desk.jobs.tables.desk) 9999999 (omega (arith, few)))

@@ -1,6 +1,8 @@
--- An event adds no more data sets and rewrites than its record has bytes, whatever these are.
-use Rattle.std.proofs.Common.{◌≡◌, ◌≤◌, ◌+◌, ◌==◌, ℕ, zero, suc, Bool, true, false, cond, List, [], ◌∷◌, length, take, drop, refl, sym, ap, ◌∙◌, Result, Ok, Err, arith}
-use Rattle.std.proofs.lemmas.List.{length-drop}
+-- An event adds no more data sets and rewrites than its record has bytes, whatever these are, and that of a deck has those of a card.
+use Rattle.std.proofs.Common.{◌≡◌, ◌≤◌, ◌<◌, ◌+◌, ◌*◌, ◌==◌, ℕ, zero, suc, Bool, true, false, cond, List, [], ◌∷◌, length, take, drop, refl, sym, ap, ◌∙◌, subst, w32, Result, Ok, Err, arith}
+use Rattle.std.proofs.lemmas.Bool.{false≢true}
+use Rattle.std.proofs.lemmas.Bool.Decides.{nat_tests}
+use Rattle.std.proofs.lemmas.List.{length-drop, length-take}
 use Rattle.std.specs.Int.{Width, byte_len, from_be_bytes}
 use Rattle.std.specs.Prelude.{nat_lt}
 use Rattle.arrayvec.specs.ArrayVec.{ArrayVec}
@@ -9,7 +11,7 @@ use Rattle.ckr_events.specs.declared.event.Event.TheVariants.{Cancelled, Checkpo
 use Rattle.ckr_events.specs.declared.event.Made.{Made}
 use Rattle.ckr_events.specs.Event.{at_offset, cancelled_at, checkpointed_at, denied_at, ended_at, event_of, fields_at, held_at, purged_at, released_at, restarted_at, rewritten_at, selected_at, started_at, step_ended_at, submitted_at, whole_at}
 use Rattle.ckr_events.specs.Format.{all_made, checkpointed, denied, ended, from_one, held, job, made_at, made_list_at, made_parts, piece_at, piece_list, piece_parts, pieces_at, restarted, rewritten, selected, started, step_ended, submitted}
-use Rattle.ckr_fields.specs.Fields.{between, both_at, byte, byte_at, four_bytes, items_at, judged, judged_at, number_at, seen_at, times_at}
+use Rattle.ckr_fields.specs.Fields.{between, both_at, byte, blocks_at, byte_at, bytes_at, four_bytes, items_at, judged, judged_at, number_at, seen_at, times_at}
 use Rattle.ckr_fields.specs.Readers.{Reading, ◌>>=◌}
 use Rattle.ckr_fields.proofs.Steps.{bind_ok, guard_ok, ok_is, test_ok}
 use Rattle.ckr_desk_refines.specs.Counts.{added_by}
@@ -142,63 +144,148 @@ started-count bytes run step items rest e =
     let behind : length b.0.0.1.items ≤ length a.0.1 = step-count a.0.1 b.0.0.0 b.0.0.1 b.0.1 b.1 in
     omega (arith, same, front, behind)
 
+-- ---- the cards of a deck
+
+bytes-long : (count : ℕ) (bytes x rest : List ℕ) → bytes_at count bytes ≡ Ok (x, rest) → (length x ≡ count) × (count ≤ length bytes)
+unfolding bytes_at
+bytes-long count bytes x rest e =
+    let fits = guard_ok (nat_lt (length bytes) count) 0 (Ok (take count bytes, drop count bytes)) (x, rest) e in
+    let enough : count ≤ length bytes = grind (arith, nat_tests, fits.0) in
+    let same : length (take count bytes) ≡ length x = ap (λ (p : List ℕ × List ℕ). length p.0) (ok_is (take count bytes, drop count bytes) (x, rest) fits.1) in
+    (omega (arith, same, enough, length-take count bytes), enough)
+
+-- a card has 80 bytes
+cards-long : (bytes cards rest : List ℕ) → blocks_at 80 bytes ≡ Ok (cards, rest) → 0 < length cards → 80 ≤ length bytes
+cards-long bytes cards rest e some =
+    let a = bind_ok (number_at w32 bytes) (λ n. bytes_at (80 * n.0) n.1) (cards, rest) e in
+    let long = bytes-long (80 * a.0.0) a.0.1 cards rest a.2 in
+    let count : length cards ≡ 80 * a.0.0 = long.0 in
+    let enough : 80 * a.0.0 ≤ length a.0.1 = long.1 in
+    let front : 0 + length a.0.1 ≤ length bytes = number-leaves w32 bytes a.0.0 a.0.1 a.1 in
+    omega (arith, count, enough, front, some)
+
+submitted-long : (bytes : List ℕ) (run : ℕ) (cards rest : List ℕ) → submitted.read bytes ≡ Ok ((run, cards), rest) → 0 < length cards → 80 ≤ length bytes
+submitted-long bytes run cards rest e some =
+    let a = bind_ok (job.read bytes) (λ a. blocks_at 80 a.1 >>= λ b. Ok ((a.0, b.0), b.1)) ((run, cards), rest) e in
+    let b = bind_ok (blocks_at 80 a.0.1) (λ b. Ok ((a.0.0, b.0), b.1)) ((run, cards), rest) a.2 in
+    let same : length b.0.0 ≡ length cards = ap (λ (p : (ℕ × List ℕ) × List ℕ). length p.0.1) (ok_is ((a.0.0, b.0.0), b.0.1) ((run, cards), rest) b.2) in
+    let front : 0 + length a.0.1 ≤ length bytes = number-leaves _ bytes a.0.0 a.0.1 a.1 in
+    let behind : 80 ≤ length a.0.1 = cards-long a.0.1 b.0.0 b.0.1 b.1 (omega (arith, same, some)) in
+    omega (arith, front, behind)
+
 -- ---- an event
 
--- what is read of the bytes behind a kind
-abbrev Adds : List ℕ → Reading Event → Type 0
-Adds bytes reading = (event : Event) (rest : List ℕ) → reading ≡ Ok (event, rest) → added_by event ≤ suc (length bytes)
+-- what holds of the event that is read
+abbrev Gives : (Event → Type 0) → Reading Event → Type 0
+Gives P reading = (event : Event) (rest : List ℕ) → reading ≡ Ok (event, rest) → P event
 
-if-adds : (bytes : List ℕ) (b : Bool) (here other : Reading Event) → Adds bytes here → Adds bytes other → Adds bytes (cond b here other)
-if-adds bytes true here other one or = one
-if-adds bytes false here other one or = or
+if-gives : (P : Event → Type 0) (b : Bool) (here other : Reading Event) → Gives P here → Gives P other → Gives P (cond b here other)
+if-gives P true here other one or = one
+if-gives P false here other one or = or
 
-one-adds : {A : Type 0} (bytes : List ℕ) (make : A → Event) (read : List ℕ → Reading A) → ((x : A) → added_by (make x) ≡ 1) → Adds bytes (seen_at make read bytes)
-one-adds bytes make read one event rest e =
+one-gives : {A : Type 0} (P : Event → Type 0) (bytes : List ℕ) (make : A → Event) (read : List ℕ → Reading A) → ((x : A) (rest : List ℕ) → read bytes ≡ Ok (x, rest) → P (make x)) → Gives P (seen_at make read bytes)
+one-gives P bytes make read each event rest e =
     let a = bind_ok (read bytes) (λ x. Ok (make x.0, x.1)) (event, rest) e in
-    let same : added_by (make a.0.0) ≡ added_by event = ap (λ (p : Event × List ℕ). added_by p.0) (ok_is (make a.0.0, a.0.1) (event, rest) a.2) in
-    omega (arith, same, one a.0.0)
+    subst P (ap (λ (p : Event × List ℕ). p.0) (ok_is (make a.0.0, a.0.1) (event, rest) a.2)) (each a.0.0 a.0.1 a.1)
 
-started-adds : (bytes : List ℕ) → Adds bytes (started_at bytes)
-unfolding started_at
-started-adds bytes event rest e =
-    let a = bind_ok (started.read bytes) (λ x. Ok (Started x.0.0 x.0.1.0 x.0.1.1, x.1)) (event, rest) e in
-    let same : suc (length a.0.0.1.1.items) ≡ added_by event = ap (λ (p : Event × List ℕ). added_by p.0) (ok_is (Started a.0.0.0 a.0.0.1.0 a.0.0.1.1, a.0.1) (event, rest) a.2) in
-    omega (arith, same, started-count bytes a.0.0.0 a.0.0.1.0 a.0.0.1.1 a.0.1 a.1)
+none-gives : (P : Event → Type 0) (left : ℕ) → Gives P (Err left)
+none-gives P left event rest e = absurd cc
 
-none-adds : (bytes : List ℕ) (left : ℕ) → Adds bytes (Err left)
-none-adds bytes left event rest e = absurd cc
+-- neither a deck nor the start of a step
+abbrev is_other : Event → Bool
+is_other (Submitted job cards) = false
+is_other (Started job step items) = false
+is_other _ = true
 
-fields-add : (kind left : ℕ) (bytes : List ℕ) → Adds bytes (fields_at kind left bytes)
-unfolding fields_at submitted_at selected_at denied_at rewritten_at checkpointed_at cancelled_at step_ended_at restarted_at held_at released_at ended_at purged_at
-fields-add kind left bytes =
-    if-adds bytes (kind == 1) _ _ (one-adds bytes (λ x. Submitted x.0 x.1) submitted.read (λ x. refl))
-    (if-adds bytes (kind == 2) _ _ (one-adds bytes (λ x. Selected x.0 x.1.0 x.1.1.0 x.1.1.1.0 x.1.1.1.1) selected.read (λ x. refl))
-    (if-adds bytes (kind == 3) _ _ (one-adds bytes (λ x. Denied x.0 x.1.0 x.1.1) denied.read (λ x. refl))
-    (if-adds bytes (kind == 4) _ _ (started-adds bytes)
-    (if-adds bytes (kind == 5) _ _ (one-adds bytes (λ x. Rewritten x.0 x.1.0 x.1.1.0 x.1.1.1.0 x.1.1.1.1.0 x.1.1.1.1.1) rewritten.read (λ x. refl))
-    (if-adds bytes (kind == 6) _ _ (one-adds bytes (λ x. Checkpointed x.0 x.1.0 x.1.1.0 x.1.1.1.0 x.1.1.1.1.0 x.1.1.1.1.1.0 x.1.1.1.1.1.1) checkpointed.read (λ x. refl))
-    (if-adds bytes (kind == 7) _ _ (one-adds bytes (λ x. Cancelled x) job.read (λ x. refl))
-    (if-adds bytes (kind == 8) _ _ (one-adds bytes (λ x. StepEnded x.0 x.1.0 x.1.1.0 x.1.1.1.0 x.1.1.1.1) step_ended.read (λ x. refl))
-    (if-adds bytes (kind == 9) _ _ (one-adds bytes (λ x. Restarted x.0 x.1.0 x.1.1.0 x.1.1.1) restarted.read (λ x. refl))
-    (if-adds bytes (kind == 10) _ _ (one-adds bytes (λ x. Held x.0 x.1.0 x.1.1.0 x.1.1.1) held.read (λ x. refl))
-    (if-adds bytes (kind == 11) _ _ (one-adds bytes (λ x. Released x) job.read (λ x. refl))
-    (if-adds bytes (kind == 12) _ _ (one-adds bytes (λ x. Ended x.0 x.1) ended.read (λ x. refl))
-    (if-adds bytes (kind == 13) _ _ (one-adds bytes (λ x. Purged x) job.read (λ x. refl)) (none-adds bytes left)))))))))))))
+fields-give : (P : Event → Type 0) (kind left : ℕ) (bytes : List ℕ) → Gives P (submitted_at bytes) → Gives P (started_at bytes) → ((event : Event) → is_other event ≡ true → P event) → Gives P (fields_at kind left bytes)
+unfolding fields_at selected_at denied_at rewritten_at checkpointed_at cancelled_at step_ended_at restarted_at held_at released_at ended_at purged_at
+fields-give P kind left bytes decks starts others =
+    if-gives P (kind == 1) _ _ decks
+    (if-gives P (kind == 2) _ _ (one-gives P bytes (λ x. Selected x.0 x.1.0 x.1.1.0 x.1.1.1.0 x.1.1.1.1) selected.read (λ x rest e. others _ refl))
+    (if-gives P (kind == 3) _ _ (one-gives P bytes (λ x. Denied x.0 x.1.0 x.1.1) denied.read (λ x rest e. others _ refl))
+    (if-gives P (kind == 4) _ _ starts
+    (if-gives P (kind == 5) _ _ (one-gives P bytes (λ x. Rewritten x.0 x.1.0 x.1.1.0 x.1.1.1.0 x.1.1.1.1.0 x.1.1.1.1.1) rewritten.read (λ x rest e. others _ refl))
+    (if-gives P (kind == 6) _ _ (one-gives P bytes (λ x. Checkpointed x.0 x.1.0 x.1.1.0 x.1.1.1.0 x.1.1.1.1.0 x.1.1.1.1.1.0 x.1.1.1.1.1.1) checkpointed.read (λ x rest e. others _ refl))
+    (if-gives P (kind == 7) _ _ (one-gives P bytes (λ x. Cancelled x) job.read (λ x rest e. others _ refl))
+    (if-gives P (kind == 8) _ _ (one-gives P bytes (λ x. StepEnded x.0 x.1.0 x.1.1.0 x.1.1.1.0 x.1.1.1.1) step_ended.read (λ x rest e. others _ refl))
+    (if-gives P (kind == 9) _ _ (one-gives P bytes (λ x. Restarted x.0 x.1.0 x.1.1.0 x.1.1.1) restarted.read (λ x rest e. others _ refl))
+    (if-gives P (kind == 10) _ _ (one-gives P bytes (λ x. Held x.0 x.1.0 x.1.1.0 x.1.1.1) held.read (λ x rest e. others _ refl))
+    (if-gives P (kind == 11) _ _ (one-gives P bytes (λ x. Released x) job.read (λ x rest e. others _ refl))
+    (if-gives P (kind == 12) _ _ (one-gives P bytes (λ x. Ended x.0 x.1) ended.read (λ x rest e. others _ refl))
+    (if-gives P (kind == 13) _ _ (one-gives P bytes (λ x. Purged x) job.read (λ x rest e. others _ refl)) (none-gives P left)))))))))))))
 
-whole-adds : (bytes : List ℕ) (event : Event) → whole_at bytes ≡ Ok event → added_by event ≤ length bytes
+-- Of the bytes behind its kind it holds what its fields give.
+EachGives : (ℕ → Event → Type 0) → Type 0
+EachGives P = (kind left : ℕ) (bytes : List ℕ) → Gives (P (length bytes)) (fields_at kind left bytes)
+
+record IsRead (P : ℕ → Event → Type 0) (bytes : List ℕ) (event : Event) : Type 0 where
+  pub behind : List ℕ
+  pub shorter : 1 + length behind ≤ length bytes
+  pub so : P (length behind) event
+
+whole-read : (P : ℕ → Event → Type 0) → EachGives P → (bytes : List ℕ) (event : Event) → whole_at bytes ≡ Ok event → IsRead P bytes event
 unfolding whole_at
-whole-adds bytes event e =
+whole-read P gives bytes event e =
     let ending = λ (x : Event × List ℕ). cond (length x.1 == 0) (Ok x.0) (Err (length x.1)) in
     let a = bind_ok (byte_at bytes) (λ kind. fields_at kind.0 (length bytes) kind.1 >>= λ x. ending x) event e in
     let b = bind_ok (fields_at a.0.0 (length bytes) a.0.1) ending event a.2 in
-    let same : added_by b.0.0 ≡ added_by event = ap added_by (test_ok (length b.0.1 == 0) (length b.0.1) b.0.0 event b.2).1 in
-    let front : 1 + length a.0.1 ≤ length bytes = byte-leaves bytes a.0.0 a.0.1 a.1 in
-    let few : added_by b.0.0 ≤ suc (length a.0.1) = fields-add a.0.0 (length bytes) a.0.1 b.0.0 b.0.1 b.1 in
-    omega (arith, same, front, few)
+    record {
+      behind = a.0.1;
+      shorter = byte-leaves bytes a.0.0 a.0.1 a.1;
+      so = subst (P (length a.0.1)) (test_ok (length b.0.1 == 0) (length b.0.1) b.0.0 event b.2).1 (gives a.0.0 (length bytes) a.0.1 b.0.0 b.0.1 b.1);
+    }
+
+event-read : (P : ℕ → Event → Type 0) → EachGives P → (bytes : List ℕ) (event : Event) → event_of bytes ≡ Ok event → IsRead P bytes event
+event-read P gives bytes event e = by (whole_at bytes) refl e
+  where
+    by : (read : Result Event ℕ) → whole_at bytes ≡ read → at_offset (length bytes) read ≡ Ok event → IsRead P bytes event
+    by (Ok one) is e = whole-read P gives bytes event (is ∙ e)
+    by (Err left) is e = absurd cc
+
+-- ---- what an event adds
+
+Adds : ℕ → Event → Type 0
+Adds most event = added_by event ≤ suc most
+
+fields-add : EachGives Adds
+unfolding submitted_at started_at
+fields-add kind left bytes =
+    fields-give (Adds (length bytes)) kind left bytes
+    (one-gives (Adds (length bytes)) bytes (λ x. Submitted x.0 x.1) submitted.read (λ x rest e. omega arith))
+    (one-gives (Adds (length bytes)) bytes (λ x. Started x.0 x.1.0 x.1.1) started.read (λ x rest e. let few = started-count bytes x.0 x.1.0 x.1.1 rest e in omega (arith, few)))
+    others
+  where
+    others : (event : Event) → is_other event ≡ true → Adds (length bytes) event
+    others (Submitted job cards) is = absurd (false≢true is)
+    others (Started job step items) is = absurd (false≢true is)
+    others event is = omega arith
 
 pub event-adds : (bytes : List ℕ) (event : Event) → event_of bytes ≡ Ok event → added_by event ≤ length bytes
-event-adds bytes event e = by (whole_at bytes) refl e
+event-adds bytes event e =
+    let its = event-read Adds fields-add bytes event e in
+    let few : added_by event ≤ suc (length its.behind) = its.so in
+    omega (arith, its.shorter, few)
+
+-- ---- the bytes of a deck
+
+HasCards : ℕ → Event → Type 0
+HasCards most (Submitted job cards) = 0 < length cards → 80 ≤ most
+HasCards most _ = Unit {0}
+
+fields-long : EachGives HasCards
+unfolding submitted_at started_at
+fields-long kind left bytes =
+    fields-give (HasCards (length bytes)) kind left bytes
+    (one-gives (HasCards (length bytes)) bytes (λ x. Submitted x.0 x.1) submitted.read (λ x rest e some. submitted-long bytes x.0 x.1 rest e some))
+    (one-gives (HasCards (length bytes)) bytes (λ x. Started x.0 x.1.0 x.1.1) started.read (λ x rest e. tt))
+    others
   where
-    by : (read : Result Event ℕ) → whole_at bytes ≡ read → at_offset (length bytes) read ≡ Ok event → added_by event ≤ length bytes
-    by (Ok one) is e = whole-adds bytes event (is ∙ e)
-    by (Err left) is e = absurd cc
+    others : (event : Event) → is_other event ≡ true → HasCards (length bytes) event
+    others (Submitted job cards) is = absurd (false≢true is)
+    others event is = tt
+
+pub deck-long : (bytes : List ℕ) (run : ℕ) (cards : List ℕ) → event_of bytes ≡ Ok (Submitted run cards) → 0 < length cards → 80 < length bytes
+deck-long bytes run cards e some =
+    let its = event-read HasCards fields-long bytes (Submitted run cards) e in
+    let long : 80 ≤ length its.behind = its.so some in
+    omega (arith, its.shorter, long)

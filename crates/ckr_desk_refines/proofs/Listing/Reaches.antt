@@ -35,7 +35,7 @@ use Rattle.ckr_points_invariant.proofs.Select.Holders.{holder-of}
 use Rattle.ckr_points_invariant.proofs.Select.Invariant as select
 use Rattle.ckr_points_invariant.proofs.WaitingRuns.{by-selected}
 use Rattle.ckr_points_invariant.proofs.Continuations.Tests.{continues}
-use Rattle.ckr_points_tables.specs.Invariant.{is_submission}
+use Rattle.ckr_desk_memory.specs.Model.Invariant.{is_submission}
 use Rattle.ckr_volumes.specs.declared.layout.Layout.{Layout}
 use Rattle.ckr_desk_memory.proofs.Runs.{Kind, kind_of, runs-stay}
 use Rattle.ckr_desk_turn.specs.Queue.{AreNumbered}

@@ -1,11 +1,13 @@
 use Rattle.std.proofs.Common.{◌≡◌, sym, subst, true, arith, Some}
+use Rattle.ckr_desk_memory.proofs.AcceptedDecks.{accepted-submits}
 use Rattle.ckr_desk_memory.specs.Invariant.{IsAnyAccepted}
 use Rattle.ckr_desk_memory.specs.OwnSets.{CommitsItsOwn}
 use Rattle.ckr_desk_memory.specs.OwnSteps.{LeavesLeft}
 use Rattle.ckr_events.specs.declared.event.Event.TheVariants.{Submitted}
+use Rattle.ckr_points_tables.specs.Invariant.{MaySubmit}
 use Rattle.ckr_desk_store.specs.State.{IsSound}
 use Rattle.ckr_desk_turn.specs.Model.Cards.{kept_of_stored}
-use Rattle.ckr_desk.proofs.Calls.CardCounts.{accepted-row, few-accepted}
+use Rattle.ckr_desk.proofs.Calls.CardCounts.{accepted-deck, accepted-row, few-accepted}
 use Rattle.ckr_desk.proofs.Calls.NextEvents.{deck-follows}
 use Rattle.ckr_desk.proofs.Calls.Stops.{nothing-left}
 use Rattle.ckr_desk.specs.Calls.{may_follow}
@@ -21,6 +23,11 @@ pub tell-requires-clause-follows : goal.tell-requires-clause-follows
 tell-requires-clause-follows g c κs within =
     subst (λ event. may_follow event (Some c.args.job) c.args.self.now ≡ true) (sym c.in_ok-event.ensures.event)
     (deck-follows c.args.self.now.store.layout c.args.self.now.jobs.tables.desk c.args.cards.now c.args.number c.args.job c.requires.some c.requires.next)
+
+pub tell-requires-clause-deck : goal.tell-requires-clause-deck
+tell-requires-clause-deck g c κs within =
+    subst (λ event. MaySubmit event (Some c.args.job)) (sym c.in_ok-event.ensures.event)
+    (accepted-submits c.args.cards.now c.args.number c.args.job (accepted-deck c.args.cards.now c.args.job c.requires.accepted) c.requires.digits)
 
 pub tell-requires-clause-accepted : goal.tell-requires-clause-accepted
 tell-requires-clause-accepted g c κs within =

@@ -1,6 +1,7 @@
 use Rattle.std.proofs.Common.{subst}
 use Rattle.ckr_desk_store.specs.State.{IsSound}
 use Rattle.ckr_desk.proofs.Calls.Requests.{call-cause, call-fits, call-full, call-kept-by, call-may-fail, call-open, call-state, call-stays, call-told, call-trusted, if-err, on-ok, on-ok-all, on-ok-both, submit-called}
+use Rattle.ckr_desk.proofs.Trust.Counts.{book-limit, trusted-numbered}
 use Rattle.ckr_desk.specs.Submit.{submit_call}
 use Rattle.ckr_desk.proofs.desk.Desk.submit.Goals as goal
 
@@ -18,6 +19,13 @@ returns-clause-comes g c trusted =
       trusted = on-ok-all (call-trusted d.told d.content d.may_leave d.size now trusted new c.hand_in.ensures.layout call its) c.hand_in.result c.hand_in.ensures.done (c.hand_in.ensures.told trusted.tells) (c.hand_in.ensures.records trusted.tells) c.hand_in.ensures.settled;
       cause = if-err (call-cause d.told d.content d.may_leave d.size now trusted d.faults new call its) c.hand_in.result c.hand_in.ensures.cause;
     }
+
+pub returns-clause-numbered : goal.returns-clause-numbered
+returns-clause-numbered g c trusted =
+    let d = g.D.Disk in
+    let now = c.args.self.now in
+    let sound = subst (λ s. IsSound d.content d.may_leave d.size s.store) c.self.view_is c.layout-layout.ensures.sound in
+    trusted-numbered d.told d.content d.may_leave now trusted (book-limit now.store.layout (d.size now.store.disk) sound.header)
 
 pub returns-clause-keeps : goal.returns-clause-keeps
 returns-clause-keeps g c =

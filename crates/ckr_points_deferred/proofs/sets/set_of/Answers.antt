@@ -1,6 +1,6 @@
 use Rattle.std.proofs.Common.{◌∙◌}
-use Rattle.ckr_points_follows.proofs.SetViews.{set-seen}
-use Rattle.ckr_points_follows.proofs.steps.set_of.Goals as goal
+use Rattle.ckr_points_deferred.proofs.SetViews.{set-seen}
+use Rattle.ckr_points_deferred.proofs.sets.set_of.Goals as goal
 
 pub returns : goal.returns
 returns c =
