@@ -49,11 +49,7 @@ pub fn set_of_syschk<'a>(tables: &'a Tables, deck: &Job) -> Option<&'a DataSet>
 }
 
 /// The first entry of an identifier that the data set of a deck's SYSCHK keeps, with its point. `None` exactly where it keeps none.
-pub fn entry_of_syschk<'a>(
-    tables: &'a Tables,
-    deck: &Job,
-    id: &CheckId,
-) -> Option<EntryNow<'a>>
+pub fn entry_of_syschk<'a>(tables: &'a Tables, deck: &Job, id: &CheckId) -> Option<EntryNow<'a>>
     requires { names_its_set deck.now.syschk ≡ true }
     ensures { option_map entry_in result ≡ kept_at tables.now.desk.sets (syschk_name deck.now) id.now }
 {
