@@ -1,4 +1,4 @@
--- A list of sound events: its fronts, and one event more.
+-- A list of sound events: its fronts, what comes behind one, and one event more.
 use Rattle.std.proofs.Common.{◌≡◌, List, [], ◌∷◌, ◌++◌, refl}
 use Rattle.ckr_volumes.specs.declared.layout.Layout.{Layout}
 use Rattle.ckr_points.specs.Events.{AreSound, AreSoundFrom, IsNext}
@@ -28,3 +28,19 @@ front_sound layout (first ∷ rest) more now are = (are.0, front_sound layout re
 -- a front of sound events is sound
 pub sound-front : (layout : Layout) (front more : List Decked) → AreSound layout (front ++ more) → AreSound layout front
 sound-front layout front more are = front_sound layout front more no_office are
+
+-- the office of events behind others
+office_behind : (front more : List Decked) (now : Office) → office_from (front ++ more) now ≡ office_from more (office_from front now)
+office_behind [] more now = refl
+office_behind (first ∷ rest) more now = office_behind rest more (office_after first now)
+
+pub office-behind : (front more : List Decked) → office (front ++ more) ≡ office_from more (office front)
+office-behind front more = office_behind front more no_office
+
+sound_behind : (layout : Layout) (front more : List Decked) (now : Office) → AreSoundFrom layout now (front ++ more) → AreSoundFrom layout (office_from front now) more
+sound_behind layout [] more now are = are
+sound_behind layout (first ∷ rest) more now are = sound_behind layout rest more (office_after first now) are.1
+
+-- what comes behind a front of sound events is sound from there on
+pub sound-behind : (layout : Layout) (front more : List Decked) → AreSound layout (front ++ more) → AreSoundFrom layout (office front) more
+sound-behind layout front more are = sound_behind layout front more no_office are

@@ -27,4 +27,5 @@ pub mod Readiness
 pub mod Continuations
 pub mod StartedSteps
 pub mod WrittenEntries
+pub mod StayingEntries
 mod Examples

@@ -7,4 +7,5 @@ pub mod Restorability
 pub mod Readiness
 pub mod StartedSteps
 pub mod WrittenEntries
+pub mod Checkpoints
 pub mod KeptEvents

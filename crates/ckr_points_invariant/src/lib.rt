@@ -1,11 +1,13 @@
 //! When the events of a desk are kept: what the tables keep beside what is sound, and that one more event keeps it, automatic restarts among them.
 #![tactic(auto)]
 
+mod checkpoint_laws;
 mod continuation_laws;
 mod kept_laws;
 mod laws;
 mod restart_laws;
 
+pub use checkpoint_laws::checkpoints_stay_until_they_are_cut;
 pub use continuation_laws::continued_runs_stand_at_their_point;
 pub use kept_laws::events_stay_kept;
 pub use laws::{

@@ -46,7 +46,7 @@ use Rattle.ckr_points_invariant.proofs.WrittenEntries.Sets.{EachHas, changed-was
 use Rattle.ckr_points_invariant.specs.Restorability.{HasPoint}
 
 -- an entry of some bytes takes room
-takes-room : (bytes : ℕ) → 1 ≤ bytes → 1 ≤ records_of bytes
+pub takes-room : (bytes : ℕ) → 1 ≤ bytes → 1 ≤ records_of bytes
 takes-room bytes some = le-div 1 (bytes + 255) 256 (omega arith) (omega (arith, some))
 
 module _ (layout : Layout) (now : Office) (job : ℕ) (row : RunRow) (leg : Leg) (owned : OwnedStep) (writes taken place bytes : ℕ) (id : Name) (lengths : List ℕ) (kept : IsAgreed layout now) (some : 1 ≤ bytes)
