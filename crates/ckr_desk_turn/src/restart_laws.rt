@@ -53,7 +53,8 @@ pub fn codes_come_to_what_the_rules_say()
 {}
 
 /// What a turn comes to rests on the operator's answer where he was asked: a run is restarted only where he said yes, is held only where he said
-/// hold, ends by the sixth rule only where he said no, and waits only where he was silent. Where he wasn't asked, nothing rests on him.
+/// hold, ends by the sixth rule only where he said no, and waits only where he was silent. Where he wasn't asked, nothing rests on him. Of a restart
+/// that a deck asks for he isn't asked: the deferred rules decide (`deferred_restarts_are_judged`).
 pub fn turns_rest_on_the_operators_answer()
     ensures restarted { (desk : DeskModel) (turn : Turn) (answer : OperatorAnswer) (job initiator : ℕ) (code : Code) (checkpoint : Bool) → (turn_of desk turn answer).event ≡ Some (RestartedEvent job initiator code checkpoint)
         → ((turn_of desk turn answer).asked ≡ true) × (answer ≡ Yes) }

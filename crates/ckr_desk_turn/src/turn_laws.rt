@@ -26,6 +26,7 @@ ghost use Rattle.ckr_desk_turn.specs.Select.{run_on_initiator};
 ghost use Rattle.ckr_desk_turn.specs.declared.reply.Turn.{Turn};
 ghost use Rattle.ckr_desk_turn.specs.Desk.{DeskModel, jobs_of, purged as purged_desk, released as released_desk, submitted as submitted_desk};
 ghost use Rattle.ckr_desk_turn.specs.Turns.{AnsweredTurn, IsAnsweredTurnOf, carried_out, desk_after, turn_of};
+ghost use Rattle.ckr_desk_turn.specs.Permissions.{BeginsOn};
 ghost use Rattle.ckr_desk_turn.specs.Plans.{between_plan, free_plan, run_plan, start_plan};
 ghost use Rattle.ckr_desk_turn.specs.NextEvents.{EventComes};
 ghost use Rattle.ckr_desk_turn.specs.Invariant.{IsDesk, IsTurnOf, Keeps};
@@ -84,11 +85,16 @@ pub fn desks_behind_turns()
 /// What a run that has ended leaves is what its job leaves that is run once, alone and without interruption from the library on which it was selected, to its
 /// end or to where it was given up: however often it was restarted in these turns, at the starts of its steps and at its checkpoints, held and
 /// released, whatever codes its steps were given, and whatever the operator answered. So the library of the ended jobs has it, with its records, under
-/// each name in the run's reach, and the tables under each such name that no run holds. The job and that library are those of its selection:
-/// its own deck, and what the ended jobs had left by then.
+/// each name in the run's reach, and the tables under each such name that no run holds. The job and that library are those of its selection.
+/// A plain run begins on the job of its own deck, and on what the ended jobs had left by then. A run that continues an earlier one begins on the job of
+/// both: the earlier one's steps up to the one at which it goes on, this one too, and its own later ones. It begins on the library that the earlier one
+/// began on, under the names of that one's job, and under all others on what the ended jobs had left by then.
 pub fn restarted_jobs_leave_what_they_leave_once()
     ensures selected { (desk : DeskModel) (one : AnsweredTurn) (row : RunRow) (initiator : ℕ) → IsDesk desk → IsAnsweredTurnOf desk.layout one → (turn_of desk one.turn one.answer).event ≡ Some (SelectedEvent row.number initiator 0 0 None)
         → run_of (turn_of desk one.turn one.answer).desk.office.tables row.number ≡ Some row → leg_of (turn_of desk one.turn one.answer).desk.office row.number ≡ Some (plain_leg desk.office row) }
+    ensures continued { (desk : DeskModel) (one : AnsweredTurn) (row : RunRow) (initiator earlier step : ℕ) (id : Option NameOfSet) → IsDesk desk → IsAnsweredTurnOf desk.layout one → 1 ≤ earlier
+        → (turn_of desk one.turn one.answer).event ≡ Some (SelectedEvent row.number initiator earlier step id) → run_of (turn_of desk one.turn one.answer).desk.office.tables row.number ≡ Some row
+        → BeginsOn desk.office (turn_of desk one.turn one.answer).desk.office row earlier step }
     ensures led { (turns : List AnsweredTurn) (desk : DeskModel) (number : ℕ) (leg : Leg) → IsDesk desk → AllByRecursion (IsAnsweredTurnOf desk.layout) turns → leg_of desk.office number ≡ Some leg → leg_of (desk_after turns desk).office number ≡ Some leg }
     ensures library { (turns : List AnsweredTurn) (last : AnsweredTurn) (desk : DeskModel) (row : RunRow) (leg : Leg) (ending : EndingOfRun) (name : NameOfSet) → IsDesk desk → AllByRecursion (IsAnsweredTurnOf desk.layout) turns → IsAnsweredTurnOf desk.layout last
         → leg_of desk.office row.number ≡ Some leg → run_of (desk_after turns desk).office.tables row.number ≡ Some row → (turn_of (desk_after turns desk) last.turn last.answer).event ≡ Some (EndedEvent row.number ending)

@@ -1,4 +1,4 @@
--- Data sets for checkpoints have records of 256 bytes behind one more event of what the desk runs.
+-- Data sets for checkpoints have records of 256 bytes behind one more event, where they have them before it.
 use Rattle.std.proofs.Common.{◌≡◌, ℕ, zero, suc, Bool, true, false, List, Option, Some, None}
 use Rattle.std.specs.Option.{option_map_or}
 use Rattle.arrayvec.specs.ArrayVec.{ArrayVec}

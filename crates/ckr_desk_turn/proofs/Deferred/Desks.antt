@@ -109,7 +109,7 @@ module _ (desk : DeskModel) (is : IsDesk desk) (job initiator before step : ℕ)
   rows : HasRows after
   rows = continued-runs desk.layout desk.office are has job initiator before step id None comes
 
-  row-on : IsRenewedOn desk.office.tables after.tables job
+  row-on : IsRenewedOn desk.office.tables after.tables job its.other step
   row-on = continued-row desk.layout desk.office are has job initiator before step id None its
 
   abbrev next : RunRow
@@ -192,7 +192,7 @@ module _ (desk : DeskModel) (is : IsDesk desk) (job initiator before step : ℕ)
 
   on : stands.row.state ≡ On
   on =
-      let renewed : IsRenewedOn desk.office.tables then.tables job = row-on desk is job initiator before step (Some id) comes in
+      let renewed : IsRenewedOn desk.office.tables then.tables job (its desk is job initiator before step (Some id) comes).other step = row-on desk is job initiator before step (Some id) comes in
       ap (λ (r : RunRow). r.state) (some-one stands.row renewed.renewed.next (run_of then.tables job) stands.holder.row_at renewed.renewed.stands.mine) ∙ renewed.on
 
   place-is : place_of stands.row ≡ Within step entry.point.writes

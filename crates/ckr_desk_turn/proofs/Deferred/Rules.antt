@@ -1,20 +1,27 @@
--- Where the deferred rules permit a restart none of them holds; where one denies it, the denial is told by that rule.
-use Rattle.std.proofs.Common.{◌≡◌, Bool, true, false, not, ◌&&◌, List, [], ◌∷◌, refl, ap, sym, ◌∙◌, Option, Some, None}
+-- Where the deferred rules permit a restart none of them holds; where one denies it, the denial is told by that rule, and by a rule on data sets it
+-- names one.
+use Rattle.std.proofs.Common.{◌≡◌, ℕ, Bool, true, false, not, ◌&&◌, List, [], ◌∷◌, refl, ap, sym, ◌∙◌, Option, Some, None}
 use Rattle.std.specs.Prelude.{if◌then◌else◌}
-use Rattle.std.specs.Option.{option_map, option_map_or}
+use Rattle.std.specs.Option.{is_some, option_map, option_map_or, option_or}
 use Rattle.std.proofs.lemmas.Bool.{false≢true}
 use Rattle.std.proofs.lemmas.Option.{same_Some}
 use Rattle.ckr_base.proofs.Bools.{bool-cases}
-use Rattle.ckr_library.specs.NameMaps.{Name}
+use Rattle.ckr_base.proofs.Options.{option-cases}
+use Rattle.ckr_entry.specs.declared.point.Mark.{Mark}
+use Rattle.ckr_entry.specs.declared.point.Present.{Present}
+use Rattle.ckr_library.specs.NameMaps.{Name, Named, entry_at}
+use Rattle.ckr_meaning.specs.EffectiveJob.{OwnedStep, is_among, step_at}
 use Rattle.ckr_points.specs.Denials.{denial_of, tells_a_name}
-use Rattle.ckr_points.specs.Freshness.{plain_denial}
-use Rattle.ckr_points.specs.RuleCases.{Wanted, deferred_case, stale_denial}
-use Rattle.ckr_points.specs.Rows.{RunRow, TablesModel}
+use Rattle.ckr_points.specs.Freshness.{changed_denial, first_stale, is_long_enough, is_of_wrong_kind, named_denial, plain_denial, stale_at, stale_by, stale_present}
+use Rattle.ckr_points.specs.Marks.{point_at, same_stamp}
+use Rattle.ckr_points.specs.RuleCases.{Wanted, deferred_case, entry_denial, stale_denial, start_denial}
+use Rattle.ckr_points.specs.Rows.{KeptEntry, RunRow, TableSet, TablesModel}
+use Rattle.ckr_points_library.specs.Commit.{output_names}
 use Rattle.ckr_points.specs.declared.denial.Denial.{Denial}
 use Rattle.ckr_rules.specs.RuleTables.{deferred, first_line, stale_line}
 use Rattle.ckr_rules.specs.declared.cases.DeferredCase.{DeferredCase}
 use Rattle.ckr_rules.specs.declared.cases.Rule.{Rule}
-use Rattle.ckr_rules.specs.declared.cases.Rule.TheVariants.{D1, D2, D3, D4, D5, D6, D7}
+use Rattle.ckr_rules.specs.declared.cases.Rule.TheVariants.{D1, D2, D3, D4, D5, D6, D7, D8, D9}
 use Rattle.ckr_rules.specs.declared.cases.Verdict.{Verdict}
 use Rattle.ckr_rules.specs.declared.cases.Verdict.TheVariants.{Step, Checkpoint, Denied}
 
@@ -139,3 +146,62 @@ denial-rule serials row wanted tables rule is =
     told : (denial : Option Denial) → option_map (λ (denial : Denial). denial.rule) denial ≡ Some rule → (option_map_or (λ denial. denial) denial (plain_denial rule)).rule ≡ rule
     told None e = refl
     told (Some denial) e = same_Some denial.rule rule e
+
+-- A denial by a rule that tells a data set is that of one that isn't fresh.
+pub denial-stale : (serials : List Name) (row : RunRow) (wanted : Wanted) (tables : TablesModel) (rule : Rule) → tells_a_name rule ≡ true → deferred (deferred_case serials row wanted tables) ≡ Denied rule → stale_denial row wanted tables ≡ Some (denial_of row wanted tables rule)
+denial-stale serials row wanted tables rule tells is = by (stale_denial row wanted tables) refl (stale-so (deferred_case serials row wanted tables) rule tells is)
+  where
+    by : (denial : Option Denial) → stale_denial row wanted tables ≡ denial → option_map (λ (denial : Denial). denial.rule) denial ≡ Some rule → stale_denial row wanted tables ≡ Some (denial_of row wanted tables rule)
+    by None found e = cc
+    by (Some denial) found e =
+        found
+        ∙ sym (
+        ap (λ b. Some (if b then option_map_or (λ denial. denial) (stale_denial row wanted tables) (plain_denial rule) else plain_denial rule)) tells
+        ∙ ap (λ (o : Option Denial). Some (option_map_or (λ denial. denial) o (plain_denial rule))) found)
+
+-- ---- the data set that it tells
+
+module _ (denial : Denial) where
+  at-some : {X : Type 0} (o : Option X) (f : X → Option Denial) → ((x : X) → f x ≡ Some denial → is_some denial.name ≡ true) → option_map_or f o None ≡ Some denial → is_some denial.name ≡ true
+  at-some None f named e = cc
+  at-some (Some x) f named e = named x e
+
+  at-choice : (b : Bool) (one other : Option Denial) → (one ≡ Some denial → is_some denial.name ≡ true) → (other ≡ Some denial → is_some denial.name ≡ true) → (if b then one else other) ≡ Some denial → is_some denial.name ≡ true
+  at-choice true one other first second e = first e
+  at-choice false one other first second e = second e
+
+  told-named : (told : Denial) → is_some told.name ≡ true → Some told ≡ Some denial → is_some denial.name ≡ true
+  told-named told named e = ap (λ (one : Denial). is_some one.name) (sym (same_Some told denial e)) ∙ named
+
+  module _ (root : ℕ) (owned : OwnedStep) where
+    present-named : (name : Name) (present : Present) (table : Option TableSet) → stale_present root owned name present table ≡ Some denial → is_some denial.name ≡ true
+    present-named name present None e = told-named (named_denial D8 name) refl e
+    present-named name present (Some table) e =
+        at-choice
+        (same_stamp table.set.stamp present.stamp && is_long_enough (is_among (output_names root owned) name) present.length table.set.length && not (is_of_wrong_kind root owned name table))
+        None (Some (changed_denial name present table)) (λ none. cc) (told-named (changed_denial name present table) refl) e
+
+    by-named : (name : Name) (present : Option Present) (table : Option TableSet) → stale_by root owned name present table ≡ Some denial → is_some denial.name ≡ true
+    by-named name (Some present) table e = present-named name present table e
+    by-named name None None e = cc
+    by-named name None (Some table) e = told-named (named_denial D9 name) refl e
+
+    first-named : (sets : Named TableSet) (marks : List Mark) → first_stale root owned sets marks ≡ Some denial → is_some denial.name ≡ true
+    first-named sets [] e = cc
+    first-named sets (mark ∷ marks) e =
+        option-cases (stale_at root owned sets mark)
+        (λ none. first-named sets marks (sym (ap (λ (o : Option Denial). option_or o (first_stale root owned sets marks)) none) ∙ e))
+        (λ one at. by-named mark.name mark.present (entry_at sets mark.name) (at ∙ sym (ap (λ (o : Option Denial). option_or o (first_stale root owned sets marks)) at) ∙ e))
+
+pub denial-named : (row : RunRow) (wanted : Wanted) (tables : TablesModel) (denial : Denial) → stale_denial row wanted tables ≡ Some denial → is_some denial.name ≡ true
+denial-named row wanted tables denial found =
+    at-some denial wanted.earlier _
+    (λ earlier.
+    at-some denial (step_at earlier.job wanted.number) _
+    (λ owned.
+    at-choice denial wanted.checkpoint
+    (option_map_or (λ (entry : KeptEntry). entry_denial row earlier wanted.number owned entry.point tables) wanted.entry None)
+    (start_denial row earlier wanted.number owned tables)
+    (at-some denial wanted.entry _ (λ entry. first-named denial earlier.job.root owned tables.sets _))
+    (at-some denial (point_at earlier.points wanted.number) _ (λ point. first-named denial earlier.job.root owned tables.sets _))))
+    found

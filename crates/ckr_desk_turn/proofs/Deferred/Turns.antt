@@ -12,12 +12,12 @@ use Rattle.ckr_jcl.specs.declared.deck.Restart.{Restart}
 use Rattle.ckr_library.specs.NameMaps.{Name}
 use Rattle.ckr_meaning.specs.declared.place.Place.TheVariants.{Opened, Within}
 use Rattle.ckr_points.specs.declared.run.RunState.TheVariants.{Queued}
-use Rattle.ckr_points.specs.Denials.{denial_of}
+use Rattle.ckr_points.specs.Denials.{denial_of, tells_a_name}
 use Rattle.ckr_points.specs.declared.denial.Denial.{Denial as DenialOfRestart}
 use Rattle.ckr_points.specs.Follows.{is_free, is_in_state, may_hold, may_restart, selected_follows, state_number}
 use Rattle.ckr_points.specs.Marks.{point_at}
 use Rattle.ckr_points.specs.Restart.{kept_at, syschk_name}
-use Rattle.ckr_points.specs.RuleCases.{Wanted, deferred_case, wanted_of}
+use Rattle.ckr_points.specs.RuleCases.{Wanted, deferred_case, stale_denial, wanted_of}
 use Rattle.ckr_points.specs.Rows.{KeptEntry, RunRow, run_of}
 use Rattle.ckr_points.specs.Soundness.{deferred_rule, denying, serials}
 use Rattle.ckr_points_invariant.specs.Restorability.{StandsAt}
@@ -35,14 +35,14 @@ use Rattle.ckr_desk_turn.specs.Codes.{code_plan, reached_by}
 use Rattle.ckr_desk_turn.specs.Plans.{chosen_plan, free_plan, plan_of, run_plan}
 use Rattle.ckr_desk_turn.specs.Turns.{carried_out, turn_of}
 use Rattle.ckr_desk_turn.specs.Deferred.{queued_plan, continued_at_entry, continued_by, deferred_plan, deferred_verdict}
-use Rattle.ckr_desk_turn.specs.Desk.{DeskModel, DeskStep, at_entry, behind, done_by, jobs_of, progress_of, progress_unless, without_run}
+use Rattle.ckr_desk_turn.specs.Desk.{DeskModel, DeskStep, TurnDone, at_entry, behind, done_by, jobs_of, progress_of, progress_unless, without_run}
 use Rattle.ckr_desk_turn.specs.Invariant.{IsDesk, IsGoing}
 use Rattle.ckr_desk_turn.specs.NextEvents.{Comes}
 use Rattle.ckr_desk_turn.specs.Permissions.{GoesOnAtEntry, GoesOnAtStart, IsJudgedNext}
 use Rattle.ckr_desk_turn.specs.Restarts.{GoesOnBy}
 use Rattle.ckr_desk_turn.specs.Select.{may_select}
 use Rattle.ckr_desk_turn.proofs.Deferred.Desks.{denied-keeps, entry-goes, entry-going, entry-stands, its, running-from, start-goes, start-stands}
-use Rattle.ckr_desk_turn.proofs.Deferred.Rules.{denial-rule}
+use Rattle.ckr_desk_turn.proofs.Deferred.Rules.{denial-named, denial-rule, denial-stale}
 use Rattle.ckr_desk_turn.proofs.Deferred.Permissions.{IsEntryPermitted, IsStartPermitted, entry-permitted, start-permitted}
 use Rattle.ckr_desk_turn.proofs.NextEvents.BetweenSteps.{free-there, next_waits, row_of_found, state_found}
 use Rattle.ckr_desk_turn.proofs.Opening.{has-runs}
@@ -212,3 +212,22 @@ module _ (desk : DeskModel) (is : IsDesk desk) (turn : Turn) (row : RunRow) (res
       by (Denied rule) = refl
       by Step = refl
       by Checkpoint = at-entry (wanted_of row desk.office.tables restart).entry
+
+-- ---- what a denial tells
+
+module _ (desk : DeskModel) (is : IsDesk desk) (turn : Turn) (row : RunRow) (restart : Restart) (rule : Rule) (judged : IsJudgedNext desk turn.initiator row restart (Denied rule)) (unforced : turn.fail ≡ None) where
+  abbrev denial : DenialOfRestart
+  denial = denial_of row (wanted_of row desk.office.tables restart) desk.office.tables rule
+
+  pub denied-told : (answer : Answer) → (turn_of desk turn answer).event ≡ Some (DeniedEvent row.number (rule_number rule) denial.name)
+  denied-told answer =
+      ap (λ (done : TurnDone). done.event) (turn-judged desk is turn row restart (Denied rule) judged unforced answer)
+      ∙ ap (λ (rule : Rule). Some (DeniedEvent row.number (rule_number rule) denial.name)) (denial-rule (serials desk.layout) row (wanted_of row desk.office.tables restart) desk.office.tables rule judged.judged)
+
+-- a rule on data sets is told of one that isn't fresh
+pub least-told : (desk : DeskModel) (initiator : ℕ) (row : RunRow) (restart : Restart) (rule : Rule) → IsJudgedNext desk initiator row restart (Denied rule) → tells_a_name rule ≡ true
+    → let wanted = wanted_of row desk.office.tables restart in let denial = denial_of row wanted desk.office.tables rule in (stale_denial row wanted desk.office.tables ≡ Some denial) × (denial.rule ≡ rule) × (is_some denial.name ≡ true)
+least-told desk initiator row restart rule judged tells =
+    let wanted : Wanted = wanted_of row desk.office.tables restart in
+    let stale : stale_denial row wanted desk.office.tables ≡ Some (denial_of row wanted desk.office.tables rule) = denial-stale (serials desk.layout) row wanted desk.office.tables rule tells judged.judged in
+    (stale, denial-rule (serials desk.layout) row wanted desk.office.tables rule judged.judged, denial-named row wanted desk.office.tables (denial_of row wanted desk.office.tables rule) stale)

@@ -15,7 +15,7 @@ use Rattle.ckr_meaning.specs.declared.place.Place.TheVariants.{Opened, Within}
 use Rattle.ckr_points.specs.Events.{IsNext}
 use Rattle.ckr_points.specs.Office.{Leg, Office, continued_leg, leg_by, leg_of, office_after, plain_leg, with_leg}
 use Rattle.ckr_points.specs.Marks.{deck_names, lost_names, own_names}
-use Rattle.ckr_points.specs.Restart.{Back, after_continued_at, after_entry_continued, after_put_back, after_taken_over, continued_row, deferred_entry, deferred_start, kept_at, sets_back, syschk_name}
+use Rattle.ckr_points.specs.Restart.{Back, after_continued_at, after_entry_continued, after_put_back, after_taken_over, continued_row, deferred_entry, deferred_start, kept_at, sets_back, spliced, syschk_name}
 use Rattle.ckr_points.specs.Rows.{EffectPoint, KeptEntry, RunRow, TablesModel, run_of}
 use Rattle.ckr_points.specs.declared.run.RunState.TheVariants.{On}
 use Rattle.ckr_points.specs.Tables.{fresh_effect}
@@ -46,10 +46,17 @@ legs-within office spaced each (Some row) = all_legs (λ (leg : Leg). AreWithinS
 
 -- ---- the row
 
--- its row is renewed, and on an initiator
-pub record IsRenewedOn (tables after : TablesModel) (job : ℕ) : Type 0 where
+-- the row of a run that continues another one at a step: its job has that one's steps up to it
+pub record Continues (row other : RunRow) (step : ℕ) : Type 0 where
+  pub earlier : row.earlier ≡ other.number
+  pub at_step : row.earlier_step ≡ step
+  pub job : row.job ≡ spliced other.job step row.number row.deck
+
+-- its row is renewed, is on an initiator, and continues the other one
+pub record IsRenewedOn (tables after : TablesModel) (job : ℕ) (other : RunRow) (step : ℕ) : Type 0 where
   pub renewed : Renewed tables after job
   pub on : renewed.next.state ≡ On
+  pub continues : Continues renewed.next other step
 
 module _ (layout : Layout) (now : Office) (are : AreKept layout now) (has : HasRows now) (job initiator before step : ℕ) (id : Option Name) (its : MayContinue layout now.tables job initiator (suc before) step id) where
   abbrev row_before : RunRow
@@ -81,41 +88,47 @@ module _ (layout : Layout) (now : Office) (are : AreKept layout now) (has : HasR
       (spliced-here its.other.job step its.row.number its.row.deck its.owned its.found) refl (admitted-so (Within step writes) count passed lost effect)
 
   -- the tables put back for it have its row
-  put-back : (row : RunRow) (owned : OwnedStep) (back : Back) → row.number ≡ job → row.state ≡ On → HasRow (record row { place = Some back.place; count = back.count; passed = back.passed }) → IsRenewedOn now.tables (after_put_back row owned back now.tables) job
-  put-back row owned back same on its_row =
+  put-back : (row : RunRow) (owned : OwnedStep) (back : Back) → row.number ≡ job → row.state ≡ On → Continues row its.other step → HasRow (record row { place = Some back.place; count = back.count; passed = back.passed })
+      → IsRenewedOn now.tables (after_put_back row owned back now.tables) job its.other step
+  put-back row owned back same on continues its_row =
       let next : RunRow = record row { place = Some back.place; count = back.count; passed = back.passed } in
-      record { renewed = record { next = next; stands = stands-one now.tables (sets_back row owned back now.tables.sets) job its.row next its.row_at same; has = its_row }; on = on }
+      record {
+        renewed = record { next = next; stands = stands-one now.tables (sets_back row owned back now.tables.sets) job its.row next its.row_at same; has = its_row };
+        on = on;
+        continues = record { earlier = continues.earlier; at_step = continues.at_step; job = continues.job };
+      }
 
-  taken-over : (row : RunRow) (owned : OwnedStep) (back : Back) → row.number ≡ job → row.state ≡ On → ((lost : List Name) → HasRow (record row { place = Some back.place; count = back.count; passed = back.passed; lost = lost })) → IsRenewedOn now.tables (after_taken_over row owned back now.tables) job
-  taken-over row owned back same on its_row =
+  taken-over : (row : RunRow) (owned : OwnedStep) (back : Back) → row.number ≡ job → row.state ≡ On → Continues row its.other step → ((lost : List Name) → HasRow (record row { place = Some back.place; count = back.count; passed = back.passed; lost = lost }))
+      → IsRenewedOn now.tables (after_taken_over row owned back now.tables) job its.other step
+  taken-over row owned back same on continues its_row =
       let named : List Name = own_names row ++ deck_names row.job.root row.number row.deck in
       let lost : List Name = lost_names back.marks named (sets_back row owned back now.tables.sets) back.passed in
-      put-back (record row { lost = lost }) owned back same on (its_row lost)
+      put-back (record row { lost = lost }) owned back same on (record { earlier = continues.earlier; at_step = continues.at_step; job = continues.job }) (its_row lost)
 
 -- the tables behind the event, but for how it is told
 renewed-at : (layout : Layout) (now : Office) (are : AreKept layout now) (has : HasRows now) (job initiator before step : ℕ) (id : Option Name) (its : MayContinue layout now.tables job initiator (suc before) step id)
-    → IsRenewedOn now.tables (after_continued_at (continued_row its.row its.other step its.point initiator now.tables.sets) its.owned step its.point id now.tables) job
+    → IsRenewedOn now.tables (after_continued_at (continued_row its.row its.other step its.point initiator now.tables.sets) its.owned step its.point id now.tables) job its.other step
 renewed-at layout now are has job initiator before step None its =
     let row : RunRow = continued_row its.row its.other step its.point initiator now.tables.sets in
-    taken-over layout now are has job initiator before step None its row its.owned (deferred_start row its.owned step its.point) (numbered layout now are has job initiator before step None its) refl
+    taken-over layout now are has job initiator before step None its row its.owned (deferred_start row its.owned step its.point) (numbered layout now are has job initiator before step None its) refl (record { earlier = refl; at_step = refl; job = refl })
     (λ lost. has-start layout now are has job initiator before step None its its.point.count its.point.passed lost its.row.in_effect)
 renewed-at layout now are has job initiator before step (Some id) its = by (kept_at now.tables.sets (syschk_name its.row.deck) id) its.entry
   where
     by : (entry : Option KeptEntry) → IsEntryOf its.other step (Some id) entry
-        → IsRenewedOn now.tables (option_map_or (λ entry. after_entry_continued (continued_row its.row its.other step its.point initiator now.tables.sets) its.owned step (syschk_name its.row.deck) entry now.tables) entry now.tables) job
+        → IsRenewedOn now.tables (option_map_or (λ entry. after_entry_continued (continued_row its.row its.other step its.point initiator now.tables.sets) its.owned step (syschk_name its.row.deck) entry now.tables) entry now.tables) job its.other step
     by None of_run = absurd of_run
     by (Some entry) of_run =
         let effect : Option EffectPoint = Some (fresh_effect (syschk_name its.row.deck) entry.kept) in
         let row : RunRow = record (continued_row its.row its.other step its.point initiator now.tables.sets) { in_effect = effect } in
-        taken-over layout now are has job initiator before step (Some id) its row its.owned (deferred_entry row step entry.point) (numbered layout now are has job initiator before step (Some id) its) refl
+        taken-over layout now are has job initiator before step (Some id) its row its.owned (deferred_entry row step entry.point) (numbered layout now are has job initiator before step (Some id) its) refl (record { earlier = refl; at_step = refl; job = refl })
         (λ lost. has-entry layout now are has job initiator before step (Some id) its entry.point.writes entry.point.count entry.point.passed lost effect)
 
 -- ---- the event
 
 module _ (layout : Layout) (now : Office) (are : AreKept layout now) (has : HasRows now) (job initiator before step : ℕ) (id : Option Name) (deck : Option Job) (its : MayContinue layout now.tables job initiator (suc before) step id) where
   -- the row of the run is another one, and the others are as they were
-  pub continued-row : IsRenewedOn now.tables (office_after (Selected job initiator (suc before) step id, deck) now).tables job
-  continued-row = subst (λ tables. IsRenewedOn now.tables tables job) (sym (after-selected layout now.tables job initiator before step id deck its)) (renewed-at layout now are has job initiator before step id its)
+  pub continued-row : IsRenewedOn now.tables (office_after (Selected job initiator (suc before) step id, deck) now).tables job its.other step
+  continued-row = subst (λ tables. IsRenewedOn now.tables tables job its.other step) (sym (after-selected layout now.tables job initiator before step id deck its)) (renewed-at layout now are has job initiator before step id its)
 
   pub continued-legs : AllByRecursion (λ (leg : Leg). AreWithinSpace leg.start) (office_after (Selected job initiator (suc before) step id, deck) now).legs
   continued-legs = legs-within now has.spaced has.spaced_legs (run_of (office_after (Selected job initiator (suc before) step id, deck) now).tables job)

@@ -1,28 +1,31 @@
 -- What a run that ended leaves, behind turns in which it may have been restarted, held and released.
-use Rattle.std.proofs.Common.{◌≡◌, ◌==◌, ◌&&◌, ℕ, zero, suc, true, false, cond, List, [], ◌∷◌, refl, sym, ◌∙◌, ap, subst, find, Option, Some, None}
+use Rattle.std.proofs.Common.{◌≡◌, ◌≤◌, ◌==◌, ◌&&◌, ℕ, zero, suc, true, false, cond, List, [], ◌∷◌, refl, sym, ◌∙◌, ap, subst, find, Option, Some, None, arith}
 use Rattle.std.proofs.lemmas.Option.{none-some, same_Some}
 use Rattle.std.specs.List.{AllByRecursion}
 use Rattle.std.specs.Option.{option_map, option_map_or}
 use Rattle.ckr_base.proofs.Bools.{and-first, bool-cases}
 use Rattle.ckr_base.proofs.Numbers.{equal-true}
-use Rattle.ckr_base.proofs.Options.{option-cases}
+use Rattle.ckr_base.proofs.Options.{is_some-true, option-cases, some-one}
 use Rattle.ckr_console.specs.declared.question.Answer.{Answer}
 use Rattle.ckr_events.specs.declared.event.Ending.{Ending}
 use Rattle.ckr_events.specs.declared.event.Event.{Event}
 use Rattle.ckr_events.specs.declared.event.Event.TheVariants.{Ended, Selected}
 use Rattle.ckr_library.specs.NameMaps.{Name, entry_at, taken_over}
-use Rattle.ckr_meaning.specs.EffectiveJob.{is_among}
+use Rattle.ckr_meaning.specs.EffectiveJob.{Effective, is_among}
 use Rattle.ckr_meaning.specs.JobRun.{job_run}
 use Rattle.ckr_meaning.specs.StepRun.{StepStart}
 use Rattle.ckr_meaning.specs.declared.place.Place.TheVariants.{Before}
+use Rattle.ckr_points.specs.Events.{IsNext}
 use Rattle.ckr_points.specs.Follows.{is_in_state, is_free, may_hold, selected_follows}
 use Rattle.ckr_points.specs.Office.{Leg, Office, continued_leg, cut_of, leg_by, leg_of, library_after, office_after, plain_leg, with_leg}
-use Rattle.ckr_points.specs.Restart.{after_event}
+use Rattle.ckr_points.specs.Restart.{after_event, spliced}
 use Rattle.ckr_points.specs.Tables.{after_selected}
 use Rattle.ckr_points.specs.Rows.{RunRow, TablesModel, run_of, with_run}
 use Rattle.ckr_points.specs.Soundness.{may_come}
 use Rattle.ckr_points.specs.declared.run.RunState.TheVariants.{On, Queued}
 use Rattle.ckr_points_invariant.specs.Invariant.{AreAlike, IsFree, IsKept, set_shape}
+use Rattle.ckr_points_invariant.specs.KeptEvents.{AreKept}
+use Rattle.ckr_points_invariant.proofs.Continuations.Follows.{MayContinue}
 use Rattle.ckr_points_invariant.proofs.Library.Entries.{at-taken_over}
 use Rattle.ckr_points_invariant.proofs.Holders.Rows.{run-same}
 use Rattle.ckr_points_invariant.proofs.Select.Holders.{leg_here, leg_there}
@@ -37,10 +40,15 @@ use Rattle.ckr_desk_turn.specs.Desk.{DeskModel, TurnDone, done_by, jobs_of, prog
 use Rattle.ckr_desk_turn.specs.Inquiries.{decided}
 use Rattle.ckr_desk_turn.specs.Invariant.{IsDesk, Keeps}
 use Rattle.ckr_desk_turn.specs.NextEvents.{EventComes}
+use Rattle.ckr_desk_turn.specs.Permissions.{BeginsOn}
 use Rattle.ckr_desk_turn.specs.Plans.{plan_of}
 use Rattle.ckr_desk_turn.specs.Taken.{behind_entry, served_by, taken_of}
 use Rattle.ckr_desk_turn.specs.Turns.{AnsweredTurn, IsAnsweredTurnOf, carried_out, desk_after, turn_of}
 use Rattle.ckr_desk_turn.specs.Units.{StepProgress, UnitEnd, unit_end}
+use Rattle.ckr_desk_turn.proofs.Opening.{has-runs}
+use Rattle.ckr_desk_turn.proofs.Readiness.{desk-kept}
+use Rattle.ckr_desk_turn.proofs.Runs.Continuations.{Continues, IsRenewedOn, continued-row, continues-so}
+use Rattle.ckr_desk_turn.proofs.Runs.Rows.{HasRows, rows-of}
 use Rattle.ckr_desk_turn.proofs.Turns.Initiator.{turn-keeps}
 use Rattle.ckr_desk_turn.proofs.Turns.Series.{next-keeps, turn-layout, turns-keep}
 
@@ -214,6 +222,56 @@ selected-led desk one row initiator is its told at =
     ∙ selected-leg desk.layout desk.office is.kept row.number initiator 0 None (subst (EventComes desk) told (turn-keeps desk one.turn one.answer is its.above its.below).comes).may row (ap (λ office. run_of office.tables row.number) (sym so) ∙ at)
   where
     so : (turn_of desk one.turn one.answer).desk.office ≡ office_after (Selected row.number initiator 0 0 None, None) desk.office
+    so = turn-by desk one.turn one.answer ∙ ap (λ event. office_by event desk.office) told
+
+-- that of a run that continues another one is of both decks, from what the other one began on
+module _ (layout : Layout) (office : Office) (are : AreKept layout office) (has : HasRows office) (row : RunRow) (initiator before step : ℕ) (id : Option Name) (next : IsNext layout office (Selected row.number initiator (suc before) step id, None))
+    (at : run_of (office_after (Selected row.number initiator (suc before) step id, None) office).tables row.number ≡ Some row) where
+  abbrev behind : Office
+  behind = office_after (Selected row.number initiator (suc before) step id, None) office
+
+  its : MayContinue layout office.tables row.number initiator (suc before) step id
+  its = continues-so layout office row.number initiator before step id None next
+
+  row-continues : Continues row its.other step
+  row-continues =
+      let renewed : IsRenewedOn office.tables behind.tables row.number its.other step = continued-row layout office are has row.number initiator before step id None its in
+      subst (λ row. Continues row its.other step) (some-one renewed.renewed.next row (run_of behind.tables row.number) renewed.renewed.stands.mine at) renewed.continues
+
+  -- it waited, so it had no leg
+  unled : leg_of office row.number ≡ None
+  unled = ap (leg_of office) (sym (are.kept.events.numbered row.number its.row its.row_at)) ∙ (are.kept.events.waiting row.number its.row its.row_at its.queued).alone
+
+  module _ (other : Leg) (led : leg_of office (suc before) ≡ Some other) where
+    leg-continues : leg_by office row row.earlier ≡ continued_leg office row other
+    leg-continues =
+        ap (leg_by office row) (row-continues.earlier ∙ are.kept.events.numbered (suc before) its.other its.other_at)
+        ∙ ap (λ (o : Option Leg). option_map_or (continued_leg office row) o (plain_leg office row)) led
+
+    leg-behind : leg_of behind row.number ≡ Some (continued_leg office row other)
+    leg-behind =
+        ap (λ (o : Option RunRow). find (λ (one : Leg). one.number == row.number) (option_map_or (λ (one : RunRow). with_leg (leg_by office one one.earlier) office.legs) o office.legs)) at
+        ∙ ap (λ (leg : Leg). find (λ (one : Leg). one.number == row.number) (with_leg leg office.legs)) leg-continues
+        ∙ leg_here (continued_leg office row other) office.legs unled
+
+    -- the earlier run's leg has its job
+    job-continues : row.job ≡ spliced other.job step row.number row.deck
+    job-continues = row-continues.job ∙ ap (λ (job : Effective). spliced job step row.number row.deck) (sym (are.begun.runs (suc before) its.other other its.other_at led).job)
+
+  continued-begins : BeginsOn office behind row (suc before) step
+  continued-begins =
+      is_some-true (leg_of office (suc before)) (are.begun.led (suc before) its.other its.other_at its.selected)
+      (λ other led. record { other = other; led = led; at_step = row-continues.at_step; job = job-continues other led; begins = leg-behind other led })
+
+pub continued-led : (desk : DeskModel) (one : AnsweredTurn) (row : RunRow) (initiator earlier step : ℕ) (id : Option Name) → IsDesk desk → IsAnsweredTurnOf desk.layout one → 1 ≤ earlier → (turn_of desk one.turn one.answer).event ≡ Some (Selected row.number initiator earlier step id)
+    → run_of (turn_of desk one.turn one.answer).desk.office.tables row.number ≡ Some row → BeginsOn desk.office (turn_of desk one.turn one.answer).desk.office row earlier step
+continued-led desk one row initiator zero step id is its above told at = absurd (omega (arith, above))
+continued-led desk one row initiator (suc before) step id is its above told at =
+    subst (λ office. BeginsOn desk.office office row (suc before) step) (sym so)
+    (continued-begins desk.layout desk.office (desk-kept desk is) (rows-of desk.office (has-runs desk is)) row initiator before step id (subst (EventComes desk) told (turn-keeps desk one.turn one.answer is its.above its.below).comes)
+    (ap (λ office. run_of office.tables row.number) (sym so) ∙ at))
+  where
+    so : (turn_of desk one.turn one.answer).desk.office ≡ office_after (Selected row.number initiator (suc before) step id, None) desk.office
     so = turn-by desk one.turn one.answer ∙ ap (λ event. office_by event desk.office) told
 
 -- ---- what it leaves
