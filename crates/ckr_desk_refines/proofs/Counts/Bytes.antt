@@ -193,8 +193,8 @@ none-gives P left event rest e = absurd cc
 
 -- neither a deck nor the start of a step
 abbrev is_other : Event → Bool
-is_other (Submitted job cards) = false
-is_other (Started job step items) = false
+is_other (Submitted run cards) = false
+is_other (Started run step items) = false
 is_other _ = true
 
 fields-give : (P : Event → Type 0) (kind left : ℕ) (bytes : List ℕ) → Gives P (submitted_at bytes) → Gives P (started_at bytes) → ((event : Event) → is_other event ≡ true → P event) → Gives P (fields_at kind left bytes)
@@ -215,7 +215,7 @@ fields-give P kind left bytes decks starts others =
     (if-gives P (kind == 13) _ _ (one-gives P bytes (λ x. Purged x) job.read (λ x rest e. others _ refl)) (none-gives P left)))))))))))))
 
 -- Of the bytes behind its kind it holds what its fields give.
-EachGives : (ℕ → Event → Type 0) → Type 0
+abbrev EachGives : (ℕ → Event → Type 0) → Type 0
 EachGives P = (kind left : ℕ) (bytes : List ℕ) → Gives (P (length bytes)) (fields_at kind left bytes)
 
 record IsRead (P : ℕ → Event → Type 0) (bytes : List ℕ) (event : Event) : Type 0 where
@@ -244,7 +244,7 @@ event-read P gives bytes event e = by (whole_at bytes) refl e
 
 -- ---- what an event adds
 
-Adds : ℕ → Event → Type 0
+abbrev Adds : ℕ → Event → Type 0
 Adds most event = added_by event ≤ suc most
 
 fields-add : EachGives Adds
@@ -256,8 +256,8 @@ fields-add kind left bytes =
     others
   where
     others : (event : Event) → is_other event ≡ true → Adds (length bytes) event
-    others (Submitted job cards) is = absurd (false≢true is)
-    others (Started job step items) is = absurd (false≢true is)
+    others (Submitted run cards) is = absurd (false≢true is)
+    others (Started run step items) is = absurd (false≢true is)
     others event is = omega arith
 
 pub event-adds : (bytes : List ℕ) (event : Event) → event_of bytes ≡ Ok event → added_by event ≤ length bytes
@@ -268,8 +268,8 @@ event-adds bytes event e =
 
 -- ---- the bytes of a deck
 
-HasCards : ℕ → Event → Type 0
-HasCards most (Submitted job cards) = 0 < length cards → 80 ≤ most
+abbrev HasCards : ℕ → Event → Type 0
+HasCards most (Submitted run cards) = 0 < length cards → 80 ≤ most
 HasCards most _ = Unit {0}
 
 fields-long : EachGives HasCards
@@ -281,7 +281,7 @@ fields-long kind left bytes =
     others
   where
     others : (event : Event) → is_other event ≡ true → HasCards (length bytes) event
-    others (Submitted job cards) is = absurd (false≢true is)
+    others (Submitted run cards) is = absurd (false≢true is)
     others event is = tt
 
 pub deck-long : (bytes : List ℕ) (run : ℕ) (cards : List ℕ) → event_of bytes ≡ Ok (Submitted run cards) → 0 < length cards → 80 < length bytes
