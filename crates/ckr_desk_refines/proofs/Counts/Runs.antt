@@ -1,13 +1,13 @@
 -- How many runs there are behind sound events.
-use Rattle.std.proofs.Common.{◌≡◌, ◌<◌, ◌+◌, ◌==◌, ℕ, zero, suc, true, not, List, [], ◌∷◌, length, refl, ap, sym, ◌∙◌, subst, Option, Some, None, arith}
+use Rattle.std.proofs.Common.{◌≡◌, ◌<◌, ◌+◌, ◌==◌, ◌&&◌, ℕ, suc, true, false, not, List, [], ◌∷◌, length, refl, sym, ◌∙◌, subst, Option, Some, None, arith}
 use Rattle.std.specs.List.{AllByRecursion}
 use Rattle.std.specs.Option.{is_some}
 use Rattle.std.proofs.lemmas.Bool.{false≢true}
 use Rattle.std.proofs.lemmas.List.{length-append}
 use Rattle.std.proofs.lemmas.List.Sums.{sum_by-cons}
 use Rattle.ckr_base.proofs.Bools.{and-first, and-second}
-use Rattle.ckr_base.proofs.Numbers.{equal-true}
-use Rattle.ckr_desk_memory.proofs.Runs.{by-submission, numbered-more, numbers-stay}
+use Rattle.ckr_desk_memory.proofs.Invariant.{numbered-behind}
+use Rattle.ckr_desk_memory.proofs.Runs.{by-submission, numbers-stay}
 use Rattle.ckr_desk_turn.specs.Queue.{AreNumbered}
 use Rattle.ckr_events.specs.declared.event.Event.{Event}
 use Rattle.ckr_events.specs.declared.event.Event.TheVariants.{Submitted}
@@ -29,29 +29,26 @@ record AreMany (many : ℕ) (runs : List RunRow) : Type 0 where
   pub long : length runs ≡ many
 
 module _ (layout : Layout) (tables : TablesModel) (many : ℕ) (are : AreMany many tables.runs) where
-  AreMore : Event → Type 0
-  AreMore event = (deck : Option Job) → follows layout tables event deck ≡ true → AreMany (many + decks_of event) (after_event event deck tables).runs
+  -- behind an event there are as many more as it submits
+  abbrev IsMore : Event → Type 0
+  IsMore event = (deck : Option Job) → follows layout tables event deck ≡ true → length (after_event event deck tables).runs ≡ many + decks_of event
 
-  submitted-more : (job : ℕ) (cards : List ℕ) → AreMore (Submitted job cards)
-  submitted-more job cards None follow = absurd (false≢true (and-second _ _ follow))
-  submitted-more job cards (Some deck) follow =
-      let next : job ≡ suc (length tables.runs) = equal-true job (suc (length tables.runs)) (and-first _ _ (and-first _ true follow)) in
-      record {
-        numbered = subst (λ n. AreNumbered 1 (tables.runs ++ queued_run n deck ∷ [])) (sym next) (numbered-more 1 tables.runs deck are.numbered);
-        long = omega (arith, length-append tables.runs (queued_run job deck ∷ []), are.long);
-      }
+  submitted-more : (job : ℕ) (cards : List ℕ) → IsMore (Submitted job cards)
+  submitted-more job cards None follow = absurd (false≢true (and-second (job == suc (length tables.runs) && not (is_empty cards)) false follow))
+  submitted-more job cards (Some deck) follow = omega (arith, length-append tables.runs (queued_run job deck ∷ []), are.long)
 
-  other-more : (event : Event) → is_submission event ≡ false → AreMore event
-  other-more event other deck follow =
-      let stay = numbers-stay tables are.numbered layout event deck other follow in
-      record { numbered = stay.numbered; long = stay.long ∙ are.long ∙ none event other }
-    where
-      none : (event : Event) → is_submission event ≡ false → many ≡ many + decks_of event
-      none (Submitted job cards) is = absurd (false≢true (sym is))
-      none event is = omega arith
+  none-submitted : (event : Event) → is_submission event ≡ false → decks_of event ≡ 0
+  none-submitted (Submitted job cards) is = absurd (false≢true (sym is))
+  none-submitted event is = refl
 
-  next-more : (event : Event) → AreMore event
-  next-more = by-submission AreMore submitted-more other-more
+  other-more : (event : Event) → is_submission event ≡ false → IsMore event
+  other-more event other deck follow = omega (arith, (numbers-stay tables are.numbered layout event deck other follow).long, are.long, none-submitted event other)
+
+  next-more : (event : Event) (deck : Option Job) → follows layout tables event deck ≡ true → AreMany (many + decks_of event) (after_event event deck tables).runs
+  next-more event deck follow = record {
+    numbered = numbered-behind layout tables event deck follow are.numbered;
+    long = by-submission IsMore submitted-more other-more event deck follow;
+  }
 
 many-from : (layout : Layout) (events : List Decked) (now : Office) (many : ℕ) → AreSoundFrom layout now events → AreMany many now.tables.runs → AreMany (many + decks_in events) (office_from events now).tables.runs
 many-from layout [] now many sound are = record { numbered = are.numbered; long = omega (arith, are.long) }
@@ -63,7 +60,8 @@ many-from layout (event ∷ rest) now many sound are =
     record { numbered = all.numbered; long = omega (arith, all.long, sum_by-cons (λ (one : Decked). decks_of one.0) event rest) }
 
 pub sound-runs : (layout : Layout) (events : List Decked) → AreSound layout events → length (office events).tables.runs ≡ decks_in events
-sound-runs layout events sound = (many-from layout events no_office 0 sound (record { numbered = tt; long = refl })).long
+sound-runs layout events sound =
+    (many-from layout events no_office 0 sound (record { numbered = tt; long = refl })).long ∙ (let same : 0 + decks_in events ≡ decks_in events = omega arith in same)
 
 -- ---- the cards of decks
 
