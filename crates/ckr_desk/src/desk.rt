@@ -1,5 +1,5 @@
 //! The jobs in memory with their disk, and the operator.
-ghost use Rattle.std.specs.Prelude.{◌≡◌, ◌≤◌, ◌++◌, ◌∷◌, [], IfErr, IfSome, OnOk, Err, None, Some, length, map, true};
+ghost use Rattle.std.specs.Prelude.{◌≡◌, ◌≤◌, ◌++◌, ◌∷◌, [], ℕ, List, IfErr, IfSome, OnOk, Err, None, Some, length, map, true};
 ghost use Rattle.std.specs.Option.{option_map};
 ghost use Rattle.std.specs.Rc.{rc_value};
 ghost use Rattle.ckr_events.specs.Event.{IsCounted, spelling};
@@ -78,10 +78,12 @@ impl<D: Disk, O: Operator> Desk<D, O> {
         self.jobs.runs()
     }
 
-    /// The disk alone. The operator is dropped.
+    /// The disk alone. The operator is dropped. Of a desk that hasn't stopped, a stop leaves all events that the disk reads.
     pub fn close(self) -> D
-        ensures { result ≡ disk_of self }
+        ensures disk { result ≡ disk_of self }
+        ensures events { IsOpen self → (image : List ℕ) → D.may_leave result image → event_records (layout_of self) image ≡ event_records (layout_of self) (D.content result) }
     {
+        let _layout = self.store.layout();
         let Desk { store, .. } = self;
         store.into_disk()
     }

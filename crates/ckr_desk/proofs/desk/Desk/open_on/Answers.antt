@@ -135,7 +135,7 @@ returns-clause-left g c =
     let laws = g.met.D.Disk g.world.𝓛 g.world.𝓜 g.world.𝓡 ((λ s x. x), (λ x. x), (λ x. x), λ x. x) in
     let there = c.in_ok-desk.field-0 in
     let e = c.in_ok-desk.ensures in
-    subst (IsLeft d.content d.may_leave d.moment d.left_since d.size d.told (AllSound d.told d.may_leave d.size disk) c.in-Err.error disk) (sym c.close.ensures)
+    subst (IsLeft d.content d.may_leave d.moment d.left_since d.size d.told (AllSound d.told d.may_leave d.size disk) c.in-Err.error disk) (sym c.close.ensures.disk)
     (inr (record {
       failed = c.in-Err.ensures.cause.0;
       opened = opened_of there.desk;
