@@ -125,12 +125,13 @@ one-holds bytes event is some = omega arith
 
 records-hold : (records : List (List ℕ)) → KeepCards (events_in records) → 80 * decks_in (events_in records) ≤ sum_by taken_by records
 records-hold [] each = omega arith
-records-hold (bytes ∷ rest) each = by (event_of bytes) refl each
+records-hold (bytes ∷ rest) each = by (λ more. records-hold rest more) (event_of bytes) refl each
   where
-    by : (read : Result Event ℕ) → event_of bytes ≡ read → KeepCards (decked_by read ++ events_in rest) → 80 * decks_in (decked_by read ++ events_in rest) ≤ sum_by taken_by (bytes ∷ rest)
-    by (Ok event) is each =
-        omega (arith, sum_by-cons (λ (one : Decked). decks_of one.0) (event, deck_of event) (events_in rest), sum_by-cons taken_by bytes rest, one-holds bytes event is each.0, records-hold rest each.1)
-    by (Err offset) is each = omega (arith, sum_by-cons taken_by bytes rest, records-hold rest each)
+    by : (KeepCards (events_in rest) → 80 * decks_in (events_in rest) ≤ sum_by taken_by rest) → (read : Result Event ℕ) → event_of bytes ≡ read → KeepCards (decked_by read ++ events_in rest)
+        → 80 * decks_in (decked_by read ++ events_in rest) ≤ sum_by taken_by (bytes ∷ rest)
+    by behind (Ok event) is each =
+        omega (arith, sum_by-cons (λ (one : Decked). decks_of one.0) (event, deck_of event) (events_in rest), sum_by-cons taken_by bytes rest, one-holds bytes event is each.0, behind each.1)
+    by behind (Err offset) is each = omega (arith, sum_by-cons taken_by bytes rest, behind each)
 
 -- a book has room for some three million decks
 book-numbered : (layout : Layout) (image : List ℕ) → layout.book ≤ 268435456 → AreSound layout (events_in (event_records layout image)) → length (office_on layout image).tables.runs ≤ 3355443
