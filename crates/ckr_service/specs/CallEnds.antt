@@ -50,15 +50,15 @@ pub record IsNotOpened (told : Type 0) (opening : Result RoomyDesk OpenError) (l
   pub writes_nothing : Keeps old new
 
 -- The disk is opened, where it is trusted in this state of the desk, and from there the stream is served, by the answers of these operators, who
--- take office in order. `each` says what a stop leaves, by the layout and the events that came, and `has` what the disk has in the end, by those
--- that were kept.
-pub record IsOpened (told trusted : Type 0) (opening : Result RoomyDesk OpenError) (operators : List Answering) (each has : Layout → List (List ℕ) → Type 0) (outcome : Result Bool Stop) (faults : Faults) (source rest old new : Option (List ℕ)) : Type 0 where
+-- take office in order. `each` says what a stop leaves meanwhile, by the layout and the events that came, and `has` which events the disk has in the
+-- end, in what it reads and whatever a stop then leaves.
+pub record IsOpened (told trusted : Type 0) (opening : Result RoomyDesk OpenError) (operators : List Answering) (each : Layout → List (List ℕ) → Type 0) (has : Layout → (List (List ℕ) → Type 0) → Type 0) (outcome : Result Bool Stop) (faults : Faults) (source rest old new : Option (List ℕ)) : Type 0 where
   pub state : RoomyDesk
   pub opens : told → (desk : RoomyDesk) × (opening ≡ Ok desk)
   pub opened : trusted → opening ≡ Ok state
   pub serving : Serving trusted (each state.desk.layout) (has state.desk.layout) (staffed_with operators state) outcome faults source rest old new
 
-abbrev pub EndsSo : Type 0 → Type 0 → Result RoomyDesk OpenError → List Answering → (OpenError → Type 0) → (Layout → List (List ℕ) → Type 0) → (Layout → List (List ℕ) → Type 0) → RunEnd → Faults → Option (List ℕ) → Option (List ℕ) → Option (List ℕ) → Option (List ℕ) → Type 0
+abbrev pub EndsSo : Type 0 → Type 0 → Result RoomyDesk OpenError → List Answering → (OpenError → Type 0) → (Layout → List (List ℕ) → Type 0) → (Layout → (List (List ℕ) → Type 0) → Type 0) → RunEnd → Faults → Option (List ℕ) → Option (List ℕ) → Option (List ℕ) → Option (List ℕ) → Type 0
 EndsSo told trusted opening operators leaves each has (NotOpened error) faults source rest old new = IsNotOpened told opening leaves error faults source rest old new
 EndsSo told trusted opening operators leaves each has (Ended outcome) faults source rest old new = IsOpened told trusted opening operators each has outcome faults source rest old new
 
@@ -69,7 +69,7 @@ pub record TakesAtMost (most : ℕ) (source rest : Option (List ℕ)) : Type 0 w
   pub few : length taken ≤ most
 
 -- how a run ended with a status, where these operators took office in order
-pub record HasRun (told trusted : Type 0) (opening : Result RoomyDesk OpenError) (operators : List Answering) (leaves : OpenError → Type 0) (each has : Layout → List (List ℕ) → Type 0) (status : ℕ) (faults : Faults) (source rest old new : Option (List ℕ)) : Type 0 where
+pub record HasRun (told trusted : Type 0) (opening : Result RoomyDesk OpenError) (operators : List Answering) (leaves : OpenError → Type 0) (each : Layout → List (List ℕ) → Type 0) (has : Layout → (List (List ℕ) → Type 0) → Type 0) (status : ℕ) (faults : Faults) (source rest old new : Option (List ℕ)) : Type 0 where
   pub end : RunEnd
   pub is : status ≡ status_of end
   pub takes : TakesAtMost 16_777_217 source rest

@@ -20,14 +20,15 @@ pub record IsAnswered (state : StaffedDesk) (refused : Bool) (all : List ℕ) (o
   pub refusals : refused ≡ has_refusal state all
 
 -- The stream was read to its end: these are all of its bytes. Where the disk is trusted, all of the text for them is written, and their events
--- came and were kept. `each` says what a stop leaves, by the events that came, and `has` what the disk has, by those that were kept.
-pub record IsServed (trusted : Type 0) (each has : List (List ℕ) → Type 0) (state : StaffedDesk) (refused : Bool) (left rest old new : Option (List ℕ)) : Type 0 where
+-- came and were kept. `each` says what a stop meanwhile leaves, by the events that came, and `has` which events the disk has in the end, in what it
+-- reads and whatever a stop then leaves.
+pub record IsServed (trusted : Type 0) (each : List (List ℕ) → Type 0) (has : (List (List ℕ) → Type 0) → Type 0) (state : StaffedDesk) (refused : Bool) (left rest old new : Option (List ℕ)) : Type 0 where
   pub all : List ℕ
   pub given : Consumes left rest all
   pub end : IsAtEnd rest
   pub few : length all ≤ 16_777_216
   pub answered : trusted → IsAnswered state refused all old new
-  pub came : trusted → each (events_told state (requests_of all)) × has (events_told state (requests_of all))
+  pub came : trusted → each (events_told state (requests_of all)) × has (λ these. these ≡ events_told state (requests_of all))
 
 -- how often the source, the sink and the disk had failed, before and after
 pub record Faults : Type 0 where
@@ -65,7 +66,7 @@ StopsAt Stops.Disk faults state taken all old new came kept = StopsWithin Stops.
 
 -- The serving stopped: these bytes were taken. Where the disk is trusted, this is written of the text for the whole stream, and of its events
 -- these came, and these were kept.
-pub record IsStopped (trusted : Type 0) (each has : List (List ℕ) → Type 0) (state : StaffedDesk) (stop : Stop) (faults : Faults) (left rest old new : Option (List ℕ)) : Type 0 where
+pub record IsStopped (trusted : Type 0) (each : List (List ℕ) → Type 0) (has : (List (List ℕ) → Type 0) → Type 0) (state : StaffedDesk) (stop : Stop) (faults : Faults) (left rest old new : Option (List ℕ)) : Type 0 where
   pub taken : List ℕ
   pub given : Consumes left rest taken
   pub few : length taken ≤ 16_777_217
@@ -76,7 +77,7 @@ abbrev pub faults_of : ℕ → ℕ → ℕ → ℕ → ℕ → ℕ → Faults
 faults_of a b c d e f = record { source_before = a; source_now = b; sink_before = c; sink_now = d; disk_before = e; disk_now = f }
 
 -- how the serving of a stream ended that began in this state of the desk
-abbrev pub Serving : Type 0 → (List (List ℕ) → Type 0) → (List (List ℕ) → Type 0) → StaffedDesk → Result Bool Stop → Faults → Option (List ℕ) → Option (List ℕ) → Option (List ℕ) → Option (List ℕ) → Type 0
+abbrev pub Serving : Type 0 → (List (List ℕ) → Type 0) → ((List (List ℕ) → Type 0) → Type 0) → StaffedDesk → Result Bool Stop → Faults → Option (List ℕ) → Option (List ℕ) → Option (List ℕ) → Option (List ℕ) → Type 0
 Serving trusted each has state (Ok refused) faults left rest old new = IsServed trusted each has state refused left rest old new
 Serving trusted each has state (Err stop) faults left rest old new = IsStopped trusted each has state stop faults left rest old new
 

@@ -1,5 +1,5 @@
 -- What serving requests does, and what is left of it where it stops.
-use Rattle.std.specs.Prelude.{◌≡◌, ◌≤◌, ◌⊎◌, ℕ, Bool, true, false, ◌||◌, if◌then◌else◌, List, [], ◌∷◌, ◌++◌, length, Option}
+use Rattle.std.specs.Prelude.{◌≡◌, ◌⊎◌, ℕ, Bool, true, false, ◌||◌, if◌then◌else◌, List, [], ◌∷◌, ◌++◌, length, Option}
 use Rattle.std.specs.List.{flat_map, list_any}
 use Rattle.std.specs.Io.KnownBytes.{Appends}
 use Rattle.ckr_outside.specs.Faults.{Rose}
@@ -57,7 +57,7 @@ pub record Serves (old new : View) (requests : List Handed) (before now : List �
   pub text : now ≡ before ++ text_to old.state requests
 
 -- One of the requests was broken off. The text is that of what was answered before: to the requests before it all, and of its own replies
--- the first ones. `came` are the events up to the call that was broken off; of these were kept all, or all but that call's.
+-- the first ones. `came` are the events up to the call that was broken off, and those of the calls before it were kept for sure.
 pub record BreaksOff (state : StaffedDesk) (requests : List Handed) (text : List ℕ) (came kept : List (List ℕ)) : Type 0 where
   pub served : List Handed
   pub broken : Handed
@@ -69,19 +69,16 @@ pub record BreaksOff (state : StaffedDesk) (requests : List Handed) (text : List
   pub given : replies_of (after_all state served) broken ≡ replies ++ later
   pub told : text ≡ text_to state served ++ answer_text (broken_off (after_all state served) broken replies)
   pub came_is : came ≡ (events_told state served ++ events_before (after_all state served) broken (length replies)) ++ event_at (after_all state served) broken (length replies)
-  pub kept_is : (kept ≡ came) ⊎ (kept ≡ events_told state served ++ events_before (after_all state served) broken (length replies))
+  pub kept_is : kept ≡ events_told state served ++ events_before (after_all state served) broken (length replies)
 
--- The events came up to some call, and perhaps one of a call that the disk failed in; of that one it isn't said whether it was kept.
+-- the events came up to some call, and all of these were kept
 pub record ComesTo (events came kept : List (List ℕ)) : Type 0 where
-  pub done : List (List ℕ)
   pub more : List (List ℕ)
-  pub front : events ≡ done ++ more
-  pub next : List (List ℕ)
-  pub few : length next ≤ 1
-  pub came_is : came ≡ done ++ next
-  pub kept_is : (kept ≡ came) ⊎ (kept ≡ done)
+  pub front : events ≡ came ++ more
+  pub kept_is : kept ≡ came
 
--- Serving requests stopped, and this is what the text grew by; it isn't told where memory ran out. These events came, and these were kept.
+-- Serving requests stopped, and this is what the text grew by; it isn't told where memory ran out. These events came, and these were kept for
+-- sure: all, but where the disk failed.
 abbrev pub HaltsSo : Halt → StaffedDesk → List Handed → List ℕ → List ℕ → List (List ℕ) → List (List ℕ) → Type 0
 HaltsSo Halts.Memory state requests before now came kept = ComesTo (events_told state requests) came kept
 HaltsSo Halts.Book state requests before now came kept =
@@ -104,7 +101,7 @@ ListHalt Halts.Disk before now came kept = (now ≡ before) × (came ≡ []) × 
 abbrev pub ChangeHalt : Halt → Bool → List (List ℕ) → List ℕ → List ℕ → List (List ℕ) → List (List ℕ) → Type 0
 ChangeHalt Halts.Memory fits event before now came kept = ComesTo (if fits then event else []) came kept
 ChangeHalt Halts.Book fits event before now came kept = (fits ≡ false) × (now ≡ before) × (came ≡ []) × (kept ≡ [])
-ChangeHalt Halts.Disk fits event before now came kept = (now ≡ before) × (came ≡ event) × ((kept ≡ came) ⊎ (kept ≡ []))
+ChangeHalt Halts.Disk fits event before now came kept = (now ≡ before) × (came ≡ event) × (kept ≡ [])
 
 -- ---- the same where lines go out meanwhile
 

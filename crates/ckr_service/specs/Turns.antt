@@ -1,5 +1,5 @@
 -- Turns one after another, and the lines that are told of them.
-use Rattle.std.specs.Prelude.{◌≡◌, ◌⊎◌, ℕ, true, false, if◌then◌else◌, List, [], ◌++◌, length, Option, None, Some}
+use Rattle.std.specs.Prelude.{◌≡◌, ℕ, true, false, if◌then◌else◌, List, [], ◌++◌, length, Option, None, Some}
 use Rattle.std.specs.List.{flat_map}
 use Rattle.ckr_desk.specs.Model.Plans.{IsToldReply}
 use Rattle.ckr_desk.specs.Model.Reply.{Reply}
@@ -43,15 +43,15 @@ module _ (layout : Layout) (turn : Turn) where
     pub behind : state ≡ behind_turns turn (length made) first
     pub events : have ≡ had ++ turns_events turn (length made) first
 
-  -- Of so many turns the first ones were made, and their replies are told. `came` are their events and the one of the next; of these were kept
-  -- all, or all but the last.
+  -- Of so many turns the first ones were made, and their replies are told. `came` are their events and the one of the next, and theirs were kept
+  -- for sure.
   pub record FirstTurns (count : ℕ) (state : AttendedDesk) (before now : List ℕ) (came kept : List (List ℕ)) : Type 0 where
     pub replies : List Reply
     pub later : List Reply
     pub given : turns turn count state ≡ replies ++ later
     pub told : now ≡ before ++ answer_text (BrokenOff layout turn.initiator replies)
     pub came_is : came ≡ turns_events turn (length replies) state ++ turn_event turn (length replies) state
-    pub kept_is : (kept ≡ came) ⊎ (kept ≡ turns_events turn (length replies) state)
+    pub kept_is : kept ≡ turns_events turn (length replies) state
 
   -- what is told where not all of so many turns were made, and which events came and were kept
   abbrev pub TurnsHalt : Halt → ℕ → AttendedDesk → List ℕ → List ℕ → List (List ℕ) → List (List ℕ) → Type 0
@@ -73,4 +73,4 @@ module _ (layout : Layout) (turn : Turn) where
 abbrev pub TurnHalt : Halt → Turn → AttendedDesk → List (List ℕ) → List (List ℕ) → Type 0
 TurnHalt Halts.Memory turn state came kept = (came ≡ []) × (kept ≡ [])
 TurnHalt Halts.Book turn state came kept = (attended_fits state turn ≡ false) × (came ≡ []) × (kept ≡ [])
-TurnHalt Halts.Disk turn state came kept = (came ≡ attended_event state turn) × ((kept ≡ came) ⊎ (kept ≡ []))
+TurnHalt Halts.Disk turn state came kept = (came ≡ attended_event state turn) × (kept ≡ [])

@@ -128,8 +128,14 @@ impl<D: Disk, O: Operator> Clerk<D, O> {
         ensures cause { IfErr result (λ halt. HaltCause (IsTrusted D.told D.content D.may_leave self.old.desk) halt (D.faults (disk_of self.old.desk)) (D.faults (disk_of self.new.desk))) }
     {
         match self.desk.submit(cards) {
-            Ok(Submitted::Job(number)) => self.accept(number, out),
-            Ok(Submitted::Refused { number, card }) => self.refuse_deck(number, card, out),
+            Ok(Submitted::Job(number)) => {
+                let _layout = self.desk.layout();
+                self.accept(number, out)
+            }
+            Ok(Submitted::Refused { number, card }) => {
+                let _layout = self.desk.layout();
+                self.refuse_deck(number, card, out)
+            }
             Err(DeskError::NoMemory) => Err(Halt::Memory),
             Err(DeskError::BookFull { .. }) => Err(Halt::Book),
             Err(DeskError::DiskFault) => Err(Halt::Disk),
@@ -259,8 +265,14 @@ impl<D: Disk, O: Operator> Clerk<D, O> {
         ensures cause { IfErr result (λ halt. HaltCause (IsTrusted D.told D.content D.may_leave self.old.desk) halt (D.faults (disk_of self.old.desk)) (D.faults (disk_of self.new.desk))) }
     {
         match change_job(&mut self.desk, change, job) {
-            Ok(true) => tell_changed(change, job, out),
-            Ok(false) => self.refuse_line(number, out),
+            Ok(true) => {
+                let _layout = self.desk.layout();
+                tell_changed(change, job, out)
+            }
+            Ok(false) => {
+                let _layout = self.desk.layout();
+                self.refuse_line(number, out)
+            }
             Err(DeskError::NoMemory) => Err(Halt::Memory),
             Err(DeskError::BookFull { .. }) => Err(Halt::Book),
             Err(DeskError::DiskFault) => Err(Halt::Disk),

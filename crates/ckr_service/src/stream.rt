@@ -3,7 +3,7 @@ ghost use Rattle.std.specs.Prelude.{◌≡◌, ◌<◌, ◌≤◌, ◌+◌, ◌*
 ghost use Rattle.std.specs.Io.KnownBytes.{Consumes, Keeps, IsAtEnd};
 ghost use Rattle.ckr_outside.specs.Faults.{Rose};
 ghost use Rattle.ckr_desk.specs.Soundness.{IsTrusted};
-ghost use Rattle.ckr_service.specs.Stops.{Goes, Has, KeepsTo};
+ghost use Rattle.ckr_service.specs.Stops.{Goes, HasSuch, KeepsTo};
 ghost use Rattle.ckr_desk.specs.State.{IsOpen, disk_of};
 ghost use Rattle.ckr_service.specs.Flows.{IsBegun};
 ghost use Rattle.ckr_service.specs.Service.{seen, staffed_by, staffed_of};
@@ -50,7 +50,7 @@ fn feed_all<S: Source, K: Sink, D: Disk, O: Operator>(
     ensures few { OnOk result (flow.new.session.number < 2 ^ 25) }
     ensures whole { OnOk result (HasWholeCards flow.new.session) }
     ensures stop { IfErr result (λ stop. IsStopped (IsTrusted D.told D.content D.may_leave flow.old.session.clerk.desk)
-        (KeepsTo D.content D.moment D.left_since D.size flow.old.session.clerk.desk (disk_of flow.new.session.clerk.desk)) (Has D.content D.moment D.left_since D.size flow.old.session.clerk.desk (disk_of flow.new.session.clerk.desk)) (staffed_of D.content flow.old.session.clerk) stop
+        (KeepsTo D.content D.moment D.left_since D.size flow.old.session.clerk.desk (disk_of flow.new.session.clerk.desk)) (HasSuch D.content D.moment D.left_since D.size flow.old.session.clerk.desk (disk_of flow.new.session.clerk.desk)) (staffed_of D.content flow.old.session.clerk) stop
         (faults_of (S.faults source.old) (S.faults source.new) (K.faults sink.old) (K.faults sink.new) (D.faults (disk_of flow.old.session.clerk.desk)) (D.faults (disk_of flow.new.session.clerk.desk))) (S.left source.old) (S.left source.new) (K.written sink.old) (K.written sink.new)) }
     ensures source_later { S.faults source.old ≤ S.faults source.new }
     ensures sink_later { K.faults sink.old ≤ K.faults sink.new }
@@ -90,7 +90,7 @@ pub fn serve<S: Source, K: Sink, D: Disk, O: Operator>(
 ) -> Served<D>
     requires is_open { IsOpen desk }
     ensures served { Serving (IsTrusted D.told D.content D.may_leave desk)
-        (KeepsTo D.content D.moment D.left_since D.size desk result.disk) (Has D.content D.moment D.left_since D.size desk result.disk) (staffed_by D.content desk roster) result.outcome
+        (KeepsTo D.content D.moment D.left_since D.size desk result.disk) (HasSuch D.content D.moment D.left_since D.size desk result.disk) (staffed_by D.content desk roster) result.outcome
         (faults_of (S.faults source.old) (S.faults source.new) (K.faults sink.old) (K.faults sink.new) (D.faults (disk_of desk)) (D.faults result.disk)) (S.left source.old) (S.left source.new) (K.written sink.old) (K.written sink.new) }
     ensures source_later { S.faults source.old ≤ S.faults source.new }
     ensures sink_later { K.faults sink.old ≤ K.faults sink.new }
@@ -115,7 +115,7 @@ fn serve_on<S: Source, K: Sink, D: Disk, O: Operator>(
     requires begun { IsBegun flow.old }
     requires is_open { IsOpen flow.old.session.clerk.desk }
     ensures served { Serving (IsTrusted D.told D.content D.may_leave flow.old.session.clerk.desk)
-        (KeepsTo D.content D.moment D.left_since D.size flow.old.session.clerk.desk (disk_of flow.new.session.clerk.desk)) (Has D.content D.moment D.left_since D.size flow.old.session.clerk.desk (disk_of flow.new.session.clerk.desk)) (staffed_of D.content flow.old.session.clerk) result
+        (KeepsTo D.content D.moment D.left_since D.size flow.old.session.clerk.desk (disk_of flow.new.session.clerk.desk)) (HasSuch D.content D.moment D.left_since D.size flow.old.session.clerk.desk (disk_of flow.new.session.clerk.desk)) (staffed_of D.content flow.old.session.clerk) result
         (faults_of (S.faults source.old) (S.faults source.new) (K.faults sink.old) (K.faults sink.new) (D.faults (disk_of flow.old.session.clerk.desk)) (D.faults (disk_of flow.new.session.clerk.desk))) (S.left source.old) (S.left source.new) (K.written sink.old) (K.written sink.new) }
     ensures source_later { S.faults source.old ≤ S.faults source.new }
     ensures sink_later { K.faults sink.old ≤ K.faults sink.new }

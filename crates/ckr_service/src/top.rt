@@ -1,5 +1,5 @@
 //! The top call.
-ghost use Rattle.std.specs.Prelude.{◌≡◌, ◌≤◌, ◌++◌, List, None, Some, map, string_bytes};
+ghost use Rattle.std.specs.Prelude.{◌≡◌, ◌≤◌, List, None, Some, map, string_bytes};
 ghost use Rattle.std.specs.Io.KnownBytes.{Keeps};
 ghost use Rattle.ckr_console.specs.declared.scripts.Script.{Script};
 ghost use Rattle.ckr_desk.specs.FirstSync.{FromSync, IsLeft};
@@ -8,6 +8,7 @@ ghost use Rattle.ckr_desk.specs.Soundness.{AllSound, HasKept, Sound, desk_openin
 ghost use Rattle.ckr_desk_format.specs.Formats.{IsFormatted, FormatsBy};
 ghost use Rattle.ckr_outside.specs.Disk.{EachSince};
 ghost use Rattle.ckr_service.specs.Feeds.{faults_of};
+ghost use Rattle.ckr_service.specs.Stops.{HasEverywhere};
 ghost use Rattle.ckr_service.specs.Words.{command_of};
 ghost use Rattle.ckr_service.specs.CallEnds.{HasFormatted, HasRun, serving_status, opening_status, formatting_status};
 
@@ -70,7 +71,7 @@ fn run<S: Source, K: Sink, D: Disk, O: Operator>(
     ensures run { HasRun D.told (AllSound D.told D.may_leave D.size disk) (desk_opening (D.content disk) (D.size disk)) (map O.answering operators.items)
         (λ error. IsLeft D.content D.may_leave D.moment D.left_since D.size D.told (AllSound D.told D.may_leave D.size disk) error disk result.disk)
         (λ layout came. FromSync D.content D.may_leave D.moment D.left_since disk result.disk (HasKept layout (D.size disk) (event_records layout (D.content disk)) came))
-        (λ layout kept. event_records layout (D.content result.disk) ≡ event_records layout (D.content disk) ++ kept)
+        (λ layout. HasEverywhere D.content D.may_leave layout (event_records layout (D.content disk)) result.disk)
         result.status
         (faults_of (S.faults source.old) (S.faults source.new) (K.faults sink.old) (K.faults sink.new) (D.faults disk) (D.faults result.disk))
         (S.left source.old) (S.left source.new) (K.written sink.old) (K.written sink.new) }
@@ -169,7 +170,7 @@ pub fn batch_desk<S: Source, K: Sink, D: Disk, O: Operator>(
         HasRun D.told (AllSound D.told D.may_leave D.size disk) (desk_opening (D.content disk) (D.size disk)) (map O.answering operators.items)
         (λ error. IsLeft D.content D.may_leave D.moment D.left_since D.size D.told (AllSound D.told D.may_leave D.size disk) error disk result.disk)
         (λ layout came. FromSync D.content D.may_leave D.moment D.left_since disk result.disk (HasKept layout (D.size disk) (event_records layout (D.content disk)) came))
-        (λ layout kept. event_records layout (D.content result.disk) ≡ event_records layout (D.content disk) ++ kept)
+        (λ layout. HasEverywhere D.content D.may_leave layout (event_records layout (D.content disk)) result.disk)
         result.status
         (faults_of (S.faults source.old) (S.faults source.new) (K.faults sink.old) (K.faults sink.new) (D.faults disk) (D.faults result.disk))
         (S.left source.old) (S.left source.new) (K.written sink.old) (K.written sink.new) }

@@ -139,7 +139,10 @@ fn one_turn<D: Disk, O: Operator>(desk: &mut Desk<D, O>, turn: Turn) -> Result<R
     ensures cause { IfErr result (λ halt. HaltCause (IsTrusted D.told D.content D.may_leave desk.old) halt (D.faults (disk_of desk.old)) (D.faults (disk_of desk.new))) }
 {
     match desk.turn(turn) {
-        Ok(reply) => Ok(reply),
+        Ok(reply) => {
+            let _layout = desk.layout();
+            Ok(reply)
+        }
         Err(DeskError::NoMemory) => Err(Halt::Memory),
         Err(DeskError::BookFull { .. }) => Err(Halt::Book),
         Err(DeskError::DiskFault) => Err(Halt::Disk),

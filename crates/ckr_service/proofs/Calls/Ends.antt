@@ -1,5 +1,5 @@
 -- How the calls on a disk end.
-use Rattle.std.proofs.Common.{◌≡◌, ◌≤◌, ℕ, Bool, List, [], Option, None, Some, Result, Ok, Err, refl, ap, subst, arith}
+use Rattle.std.proofs.Common.{◌≡◌, ℕ, Bool, List, [], Option, None, Some, Result, Ok, Err, refl, ap, subst, arith}
 use Rattle.std.specs.Prelude.{IsOkAnd}
 use Rattle.std.specs.Io.KnownBytes.{Keeps}
 use Rattle.ckr_console.specs.Answering.{Answering}
@@ -26,7 +26,7 @@ Keeps-refl (Some xs) = refl
 
 -- ---- a stream
 
-takes_served : (trusted : Type 0) (each has : List (List ℕ) → Type 0) (state : StaffedDesk) (outcome : Result Bool Stop) (faults : Faults) (source rest old new : Option (List ℕ))
+takes_served : (trusted : Type 0) (each : List (List ℕ) → Type 0) (has : (List (List ℕ) → Type 0) → Type 0) (state : StaffedDesk) (outcome : Result Bool Stop) (faults : Faults) (source rest old new : Option (List ℕ))
     → Serving trusted each has state outcome faults source rest old new → TakesAtMost 16_777_217 source rest
 takes_served trusted each has state (Ok refused) faults source rest old new s = record { taken = s.all; given = s.given; few = omega (arith, s.few) }
 takes_served trusted each has state (Err stop) faults source rest old new s = record { taken = s.taken; given = s.given; few = s.few }
@@ -39,7 +39,7 @@ opens_told : (image : List ℕ) (size : ℕ) (opened : Opened) → opening_of im
 unfolding desk_opening
 opens_told image size opened is = (_, ap (desk_of_opened image) is)
 
-pub run_ended : (told trusted : Type 0) (image : List ℕ) (size : ℕ) (opened : Opened) (state : RoomyDesk) (operators : List Answering) (leaves : OpenError → Type 0) (each has : Layout → List (List ℕ) → Type 0) (outcome : Result Bool Stop)
+pub run_ended : (told trusted : Type 0) (image : List ℕ) (size : ℕ) (opened : Opened) (state : RoomyDesk) (operators : List Answering) (leaves : OpenError → Type 0) (each : Layout → List (List ℕ) → Type 0) (has : Layout → (List (List ℕ) → Type 0) → Type 0) (outcome : Result Bool Stop)
     (status : ℕ) (faults : Faults) (source rest old new : Option (List ℕ))
     → (told → opening_of image size ≡ Ok opened) → (trusted → desk_opening image size ≡ Ok state) → status ≡ serving_status outcome
     → Serving trusted (each state.desk.layout) (has state.desk.layout) (staffed_with operators state) outcome faults source rest old new
@@ -51,7 +51,7 @@ run_ended told trusted image size opened state operators leaves each has outcome
   so = record { state = state; opens = λ tells. opens_told image size opened (reads tells); opened = opens; serving = s };
 }
 
-pub run_not_opened : (told trusted : Type 0) (opening : Result RoomyDesk OpenError) (operators : List Answering) (leaves : OpenError → Type 0) (each has : Layout → List (List ℕ) → Type 0) (error : OpenError) (status a c before now : ℕ)
+pub run_not_opened : (told trusted : Type 0) (opening : Result RoomyDesk OpenError) (operators : List Answering) (leaves : OpenError → Type 0) (each : Layout → List (List ℕ) → Type 0) (has : Layout → (List (List ℕ) → Type 0) → Type 0) (error : OpenError) (status a c before now : ℕ)
     (source old : Option (List ℕ))
     → status ≡ opening_status error → OpenCause (Rose before now) told opening error → leaves error → HasRun told trusted opening operators leaves each has status (faults_of a a c c before now) source source old old
 run_not_opened told trusted opening operators leaves each has error status a c before now source old is cause left = record {

@@ -7,7 +7,7 @@ use Rattle.ckr_desk.specs.declared.error.OpenError.{OpenError}
 use Rattle.ckr_desk.specs.FirstSync.{FailsLate, FromSync, IsLeft}
 use Rattle.ckr_desk.specs.Soundness.{AllSound, HasKept, Sound}
 use Rattle.ckr_desk.specs.State.{DeskView, disk_of, layout_of}
-use Rattle.ckr_service.specs.Stops.{Has, KeepsTo}
+use Rattle.ckr_service.specs.Stops.{HasBehind, HasEverywhere, HasSuch, KeepsTo}
 use Rattle.ckr_service.proofs.Calls.Stops.{kept_more}
 
 module _ {D : Type 0} (told : Type 0) (content : D → List ℕ) (may_leave : D → List ℕ → Type 0) (moment : D → ℕ) (left_since : D → ℕ → List ℕ → Type 0) (size : D → ℕ) where
@@ -28,9 +28,17 @@ module _ {D : Type 0} (told : Type 0) (content : D → List ℕ) (may_leave : D 
         (subst (λ (n : ℕ). HasKept (layout_of desk) n (event_records (layout_of desk) (content (disk_of desk))) came image) same_size kept));
   }
 
+  -- and each image has them, with those that the disk read before
   pub has_served : (disk : D) (desk : DeskView D) (end : D) → event_records (layout_of desk) (content (disk_of desk)) ≡ event_records (layout_of desk) (content disk)
-      → (kept : List (List ℕ)) → Has content moment left_since size desk end kept → event_records (layout_of desk) (content end) ≡ event_records (layout_of desk) (content disk) ++ kept
-  has_served disk desk end same kept has = has ∙ ap (λ l. l ++ kept) same
+      → ((t : ℕ) (image : List ℕ) → t ≤ moment end → may_leave end image → left_since end t image)
+      → (Such : List (List ℕ) → Type 0) → HasSuch content moment left_since size desk end Such → HasEverywhere content may_leave (layout_of desk) (event_records (layout_of desk) (content disk)) end Such
+  has_served disk desk end same counts Such has = record {
+    reads = from_disk (content end) has.reads;
+    left = λ image may. from_disk image (has.left image (λ t later. counts t image later may));
+  }
+    where
+      from_disk : (image : List ℕ) → HasBehind (layout_of desk) (event_records (layout_of desk) (content (disk_of desk))) Such image → HasBehind (layout_of desk) (event_records (layout_of desk) (content disk)) Such image
+      from_disk image behind = (behind.0, behind.1, behind.2 ∙ ap (λ l. l ++ behind.0) same)
 
   -- ---- sound images
 

@@ -1,5 +1,5 @@
 -- What a stop leaves, and which events came, one call after another.
-use Rattle.std.proofs.Common.{◌≡◌, ◌≤◌, ◌++◌, [], ◌∷◌, ◌⊎◌, ℕ, List, length, Result, Ok, Err, OnOk, IfErr, IsErrAnd, refl, ap, sym, ◌∙◌, subst, append_assoc, append-nil}
+use Rattle.std.proofs.Common.{◌≡◌, ◌≤◌, ◌++◌, [], ◌∷◌, ℕ, List, length, Result, Ok, Err, OnOk, IfErr, ⊎_elim, inl, inr, refl, ap, sym, ◌∙◌, subst, append_assoc, append-nil}
 use Rattle.std.proofs.lemmas.List.{append_cancel_left}
 use Rattle.ckr_outside.specs.Moments.{and_then}
 use Rattle.ckr_desk.specs.declared.error.DeskError.{DeskError}
@@ -10,7 +10,7 @@ use Rattle.ckr_desk.specs.NoChange.{StaysBy}
 use Rattle.ckr_desk.specs.Requests.{came_by}
 use Rattle.ckr_desk.specs.Soundness.{HasKept, KeepsWithin}
 use Rattle.ckr_desk.specs.State.{DeskView, disk_of, layout_of}
-use Rattle.ckr_service.specs.Stops.{Comes, Goes, Has, KeepsTo, Stopped}
+use Rattle.ckr_service.specs.Stops.{AllOrKept, Goes, Has, HasBehind, HasSuch, KeepsTo, Stopped}
 use Rattle.ckr_service.proofs.Service.Events.{front_of_few}
 
 -- an image with the first of the events that came, and of more
@@ -32,6 +32,14 @@ kept_behind layout size before first came image has = record {
   events = has.events ∙ append_assoc before first has.front;
 }
 
+-- an image that has none of the events that came, as there were none
+pub none_behind : (layout : Layout) (size : ℕ) (before : List (List ℕ)) (image : List ℕ) → HasKept layout size before [] image → event_records layout image ≡ before ++ []
+none_behind layout size before image has = has.events ∙ ap (λ l. before ++ l) (none has.front has.more has.split)
+  where
+    none : (front more : List (List ℕ)) → ◌≡◌ {A = List (List ℕ)} [] (front ++ more) → front ≡ []
+    none [] more is = refl
+    none (x ∷ xs) more is = cc
+
 -- the events behind a call, with the layout behind it
 pub came_there : {D : Type 0} (content : D → List ℕ) (old new : DeskView D) (came : List (List ℕ)) → layout_of new ≡ layout_of old
     → event_records (layout_of old) (content (disk_of new)) ≡ event_records (layout_of old) (content (disk_of old)) ++ came
@@ -42,14 +50,37 @@ module _ {D : Type 0} (content : D → List ℕ) (moment : D → ℕ) (left_sinc
   abbrev events_of : DeskView D → List (List ℕ)
   events_of desk = event_records (layout_of desk) (content (disk_of desk))
 
+  -- a call of the desk that tells no event
+  pub goes_none : (old new : DeskView D) → layout_of new ≡ layout_of old → size (disk_of new) ≡ size (disk_of old)
+      → KeepsWithin content moment left_since size old new [] → Has content moment left_since size old (disk_of new) [] → Goes content moment left_since size old new
+  goes_none old new same_layout same_size kept has = record {
+    came = [];
+    each = kept;
+    has = has;
+    left = λ image now. none_behind (layout_of old) (size (disk_of old)) (events_of old) image (kept.each image (now (moment (disk_of old)) kept.later));
+    same_layout = same_layout;
+    same_size = same_size;
+  }
+
   -- nothing is done
   pub goes_nowhere : (desk : DeskView D) → KeepsWithin content moment left_since size desk desk [] → Goes content moment left_since size desk desk
-  goes_nowhere desk kept = record { came = []; each = kept; has = sym (append-nil (events_of desk)); same_layout = refl; same_size = refl }
+  goes_nowhere desk kept = goes_none desk desk refl refl kept (sym (append-nil (events_of desk)))
 
-  -- a call of the desk
+  -- any call of the desk, behind which a stop leaves all events that the disk reads then
   pub goes_done : (old new : DeskView D) (came : List (List ℕ)) → layout_of new ≡ layout_of old → size (disk_of new) ≡ size (disk_of old)
-      → KeepsWithin content moment left_since size old new came → Has content moment left_since size old (disk_of new) came → Goes content moment left_since size old new
-  goes_done old new came same_layout same_size kept has = record { came = came; each = kept; has = has; same_layout = same_layout; same_size = same_size }
+      → KeepsWithin content moment left_since size old new came → Has content moment left_since size old (disk_of new) came → KeepsWithin content moment left_since size new new []
+      → Goes content moment left_since size old new
+  goes_done old new came same_layout same_size kept has still = record {
+    came = came;
+    each = kept;
+    has = has;
+    left = λ image now.
+        subst (λ (l : Layout). event_records l image ≡ event_records l (content (disk_of new)) ++ []) same_layout
+        (none_behind (layout_of new) (size (disk_of new)) (events_of new) image (still.each image (now (moment (disk_of new)) still.later)))
+        ∙ append-nil (event_records (layout_of old) (content (disk_of new))) ∙ has;
+    same_layout = same_layout;
+    same_size = same_size;
+  }
 
   -- which events came, by those behind
   pub came_is : (a b : DeskView D) (goes : Goes content moment left_since size a b) (came : List (List ℕ)) → events_of b ≡ events_of a ++ came → goes.came ≡ came
@@ -62,10 +93,10 @@ module _ {D : Type 0} (content : D → List ℕ) (moment : D → ℕ) (left_sinc
 
   -- exactly these came
   pub came_exactly : (a b : DeskView D) (goes : Goes content moment left_since size a b) (came : List (List ℕ)) → events_of b ≡ events_of a ++ came
-      → KeepsTo content moment left_since size a (disk_of b) came × Has content moment left_since size a (disk_of b) came
+      → KeepsTo content moment left_since size a (disk_of b) came × HasSuch content moment left_since size a (disk_of b) (λ these. these ≡ came)
   came_exactly a b goes came behind =
       let same : goes.came ≡ came = came_is a b goes came behind in
-      (subst (KeepsTo content moment left_since size a (disk_of b)) same goes.each, subst (Has content moment left_since size a (disk_of b)) same goes.has)
+      (subst (KeepsTo content moment left_since size a (disk_of b)) same goes.each, record { reads = (goes.came, same, goes.has); left = λ image now. (goes.came, same, goes.left image now) })
 
   kept_from : (a b : DeskView D) (goes : Goes content moment left_since size a b) (came : List (List ℕ)) (image : List ℕ)
       → HasKept (layout_of b) (size (disk_of b)) (events_of b) came image → HasKept (layout_of a) (size (disk_of a)) (events_of a) (goes.came ++ came) image
@@ -82,17 +113,19 @@ module _ {D : Type 0} (content : D → List ℕ) (moment : D → ℕ) (left_sinc
       (λ image kept. kept_more (layout_of a) (size (disk_of a)) (events_of a) goes.came came image kept)
       (kept_from a b goes came)
 
-  pub has_then : (a b : DeskView D) (c : D) (goes : Goes content moment left_since size a b) (kept : List (List ℕ)) → Has content moment left_since size b c kept
-      → Has content moment left_since size a c (goes.came ++ kept)
-  has_then a b c goes kept second =
-      subst (λ (l : Layout). event_records l (content c) ≡ event_records l (content (disk_of b)) ++ kept) goes.same_layout second
-      ∙ ap (λ l. l ++ kept) goes.has ∙ append_assoc (events_of a) goes.came kept
+  -- the events of an image, with those that came before
+  pub has_then : (a b : DeskView D) (image : List ℕ) (goes : Goes content moment left_since size a b) (these : List (List ℕ)) → event_records (layout_of b) image ≡ events_of b ++ these
+      → event_records (layout_of a) image ≡ events_of a ++ (goes.came ++ these)
+  has_then a b image goes these second =
+      subst (λ (l : Layout). event_records l image ≡ event_records l (content (disk_of b)) ++ these) goes.same_layout second
+      ∙ ap (λ l. l ++ these) goes.has ∙ append_assoc (events_of a) goes.came these
 
   pub goes_then : (a b c : DeskView D) → Goes content moment left_since size a b → Goes content moment left_since size b c → Goes content moment left_since size a c
   goes_then a b c first second = record {
     came = first.came ++ second.came;
     each = each_then a b (disk_of c) first second.came second.each;
-    has = has_then a b (disk_of c) first second.came second.has;
+    has = has_then a b (content (disk_of c)) first second.came second.has;
+    left = λ image now. has_then a b image first second.came (second.left image now);
     same_layout = second.same_layout ∙ first.same_layout;
     same_size = second.same_size ∙ first.same_size;
   }
@@ -116,8 +149,16 @@ module _ {D : Type 0} (content : D → List ℕ) (moment : D → ℕ) (left_sinc
     kept = goes.came ++ stopped.kept;
     so = subst (λ (l : List (List ℕ)). So' (l ++ stopped.came) (l ++ stopped.kept)) (sym (came_is a b goes came behind)) (so stopped.came stopped.kept stopped.so);
     each = each_then a b c goes stopped.came stopped.each;
-    has = has_then a b c goes stopped.kept stopped.has;
+    has = record { reads = behind_both (content c) stopped.has.reads; left = λ image now. behind_both image (stopped.has.left image now) };
   }
+    where
+      behind_both : (image : List ℕ) → HasBehind (layout_of b) (events_of b) (AllOrKept stopped.came stopped.kept) image
+          → HasBehind (layout_of a) (events_of a) (AllOrKept (goes.came ++ stopped.came) (goes.came ++ stopped.kept)) image
+      behind_both image has = (
+        goes.came ++ has.0,
+        ⊎_elim (λ all. inl (ap (λ l. goes.came ++ l) all)) (λ kept. inr (ap (λ l. goes.came ++ l) kept)) has.1,
+        has_then a b image goes has.0 has.2,
+      )
 
   -- nothing more came
   pub stopped_here : (a b : DeskView D) (goes : Goes content moment left_since size a b) (came : List (List ℕ)) (So : List (List ℕ) → List (List ℕ) → Type 0)
@@ -127,7 +168,7 @@ module _ {D : Type 0} (content : D → List ℕ) (moment : D → ℕ) (left_sinc
     kept = goes.came;
     so = subst (λ (l : List (List ℕ)). So l l) (sym (came_is a b goes came behind)) so;
     each = goes.each;
-    has = goes.has;
+    has = record { reads = (goes.came, inl refl, goes.has); left = λ image now. (goes.came, inl refl, goes.left image now) };
   }
 
   -- in other words
@@ -151,7 +192,10 @@ module _ {D : Type 0} (content : D → List ℕ) (moment : D → ℕ) (left_sinc
     kept = [];
     so = so;
     each = kept;
-    has = ap (event_records (layout_of old)) reads ∙ sym (append-nil (events_of old));
+    has = record {
+      reads = ([], inl refl, ap (event_records (layout_of old)) reads ∙ sym (append-nil (events_of old)));
+      left = λ image now. ([], inl refl, none_behind (layout_of old) (size (disk_of old)) (events_of old) image (kept.each image (now (moment (disk_of old)) kept.later)));
+    };
   }
 
   -- there was no memory
@@ -169,20 +213,24 @@ module _ {D : Type 0} (content : D → List ℕ) (moment : D → ℕ) (left_sinc
       nothing_came old new So (subst (λ (e : DeskError). KeepsWithin content moment left_since size old new (came_by {T = T} (Err e) came)) is kept)
       (subst (StaysBy content may_leave faults old new) is stays).reads so
 
-  -- the disk failed, of which a read gives one of the images: its event was kept or it wasn't
+  -- the disk failed, of which a read gives one of the images: each has the event of the call, or lacks it
   pub with_failed_disk : (may_leave : D → List ℕ → Type 0) (old new : DeskView D) (came : List (List ℕ)) (So : List (List ℕ) → List (List ℕ) → Type 0) → may_leave (disk_of new) (content (disk_of new))
       → ((t : ℕ) (image : List ℕ) → t ≤ moment (disk_of new) → may_leave (disk_of new) image → left_since (disk_of new) t image)
-      → length came ≤ 1 → KeepsWithin content moment left_since size old new came → ((kept : List (List ℕ)) → (kept ≡ came) ⊎ (kept ≡ []) → So came kept)
+      → length came ≤ 1 → KeepsWithin content moment left_since size old new came → So came []
       → Stopped content moment left_since size old (disk_of new) So
-  with_failed_disk may_leave old new came So reads counts few kept so =
-      let has = kept.each (content (disk_of new)) (counts (moment (disk_of old)) (content (disk_of new)) kept.later reads) in
-      record {
-        came = came;
-        kept = has.front;
-        so = so has.front (front_of_few came has.front has.more few has.split);
-        each = kept;
-        has = has.events;
-      }
+  with_failed_disk may_leave old new came So reads counts few kept so = record {
+    came = came;
+    kept = [];
+    so = so;
+    each = kept;
+    has = record {
+      reads = either (content (disk_of new)) (counts (moment (disk_of old)) (content (disk_of new)) kept.later reads);
+      left = λ image now. either image (now (moment (disk_of old)) kept.later);
+    };
+  }
+    where
+      either : (image : List ℕ) → left_since (disk_of new) (moment (disk_of old)) image → HasBehind (layout_of old) (events_of old) (AllOrKept came []) image
+      either image since = let has = kept.each image since in (has.front, front_of_few came has.front has.more few has.split, has.events)
 
   -- the event of a call that the disk failed in
   pub failed_kept : (T : Type 0) (old new : DeskView D) (error : DeskError) (came : List (List ℕ)) → error ≡ DiskFault → KeepsWithin content moment left_since size old new (came_by {T = T} (Err error) came)
@@ -203,9 +251,4 @@ module _ {D : Type 0} (content : D → List ℕ) (moment : D → ℕ) (left_sinc
       → ((t : ℕ) (image : List ℕ) → t ≤ moment (disk_of new) → may_leave (disk_of new) image → left_since (disk_of new) t image)
       → KeepsWithin content moment left_since size old new [] → Has content moment left_since size old (disk_of new) []
   has_none may_leave old new reads counts kept =
-      let has = kept.each (content (disk_of new)) (counts (moment (disk_of old)) (content (disk_of new)) kept.later reads) in
-      has.events ∙ ap (λ l. events_of old ++ l) (none has.front has.more has.split)
-    where
-      none : (front more : List (List ℕ)) → ◌≡◌ {A = List (List ℕ)} [] (front ++ more) → front ≡ []
-      none [] more is = refl
-      none (x ∷ xs) more is = cc
+      none_behind (layout_of old) (size (disk_of old)) (events_of old) (content (disk_of new)) (kept.each (content (disk_of new)) (counts (moment (disk_of old)) (content (disk_of new)) kept.later reads))

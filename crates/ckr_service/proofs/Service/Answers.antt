@@ -1,5 +1,5 @@
 -- What the clerk answers to one request.
-use Rattle.std.proofs.Common.{◌≡◌, ◌⊎◌, ℕ, Bool, true, false, cond, ◌||◌, ◌&&◌, List, [], ◌∷◌, ◌++◌, length, Result, Ok, Err, OnOk, ⊎_elim, inl, inr, refl, sym, ap, subst, ◌∙◌, append-nil}
+use Rattle.std.proofs.Common.{◌≡◌, ℕ, Bool, true, false, cond, ◌||◌, ◌&&◌, List, [], ◌∷◌, ◌++◌, length, Result, Ok, Err, OnOk, refl, sym, ap, subst, ◌∙◌, append-nil}
 use Rattle.std.specs.List.{flat_map}
 use Rattle.ckr_base.proofs.Bools.{or-false, or-true}
 use Rattle.ckr_desk.specs.Model.Rows.{TablesModel}
@@ -81,7 +81,7 @@ deck_full s cards t full = request_full s (Deck cards) t t [] [] full (sym (appe
 
 -- the disk failed, and none of its replies was given
 pub broken_at_once : (s : StaffedDesk) (request : Handed) (t : List ℕ) (came kept : List (List ℕ)) → answer_text (broken_off s request []) ≡ [] → came ≡ events_before s request 0 ++ event_at s request 0
-    → (kept ≡ came) ⊎ (kept ≡ events_before s request 0) → HaltsSo Halts.Disk s (request ∷ []) t t came kept
+    → kept ≡ events_before s request 0 → HaltsSo Halts.Disk s (request ∷ []) t t came kept
 broken_at_once s request t came kept nothing came_is kept_is = (
   [],
   sym (append-nil t),
@@ -138,7 +138,7 @@ module _ (s : StaffedDesk) (number : ℕ) (line : List ℕ) (order : Order) (rea
           given = sym (ap (replies_to s) same) ∙ why.given;
           told = ap (λ o. answer_text (BrokenOff (layout_at s) (initiator_of o) why.replies)) same;
           came_is = why.came_is ∙ ap (λ o. order_events_before s o (length why.replies) ++ order_event_at s o (length why.replies)) same;
-          kept_is = ⊎_elim (λ its. inl its) (λ less. inr (less ∙ ap (λ o. order_events_before s o (length why.replies)) same)) why.kept_is;
+          kept_is = why.kept_is ∙ ap (λ o. order_events_before s o (length why.replies)) same;
         },
       )
 
@@ -171,7 +171,7 @@ module _ (s : StaffedDesk) (number : ℕ) (line : List ℕ) (order : Order) (rea
   list_halted_so name t u is Halts.Disk came kept why =
       let same : ListOf name ≡ order_in s line = sym is ∙ reads in
       subst (λ (w : List ℕ). HaltsSo Halts.Disk s (Command number line ∷ []) t w came kept) (sym why.0)
-      (broken_at_once s (Command number line) t came kept refl (why.1 ∙ ap (λ o. order_events_before s o 0 ++ order_event_at s o 0) same) (inl (why.2 ∙ sym why.1)))
+      (broken_at_once s (Command number line) t came kept refl (why.1 ∙ ap (λ o. order_events_before s o 0 ++ order_event_at s o 0) same) (why.2 ∙ ap (λ o. order_events_before s o 0) same))
 
   change_not_served : (halt : Halt) (change : JobChange) (job : ℕ) (t u : List ℕ) → order ≡ Change change job → (came kept : List (List ℕ)) → ChangeHalt halt (call_fits s.attended.state (call_for change (tables_at s) job)) (change_event change s job) t u came kept
       → HaltsSo halt s (Command number line ∷ []) t u came kept
@@ -186,8 +186,7 @@ module _ (s : StaffedDesk) (number : ℕ) (line : List ℕ) (order : Order) (rea
   change_not_served Halts.Disk change job t u is came kept why =
       let same : Change change job ≡ order_in s line = sym is ∙ reads in
       subst (λ (w : List ℕ). HaltsSo Halts.Disk s (Command number line ∷ []) t w came kept) (sym why.0)
-      (broken_at_once s (Command number line) t came kept refl (why.1 ∙ ap (λ o. order_events_before s o 0 ++ order_event_at s o 0) same)
-      (⊎_elim (λ its. inl its) (λ none. inr (none ∙ ap (λ o. order_events_before s o 0) same)) why.2))
+      (broken_at_once s (Command number line) t came kept refl (why.1 ∙ ap (λ o. order_events_before s o 0 ++ order_event_at s o 0) same) (why.2 ∙ ap (λ o. order_events_before s o 0) same))
 
   pub change_halted_so : (tables : TablesModel) (change : JobChange) (job : ℕ) (t u : List ℕ) → tables ≡ tables_at s → order ≡ Change change job → (halt : Halt) (came kept : List (List ℕ))
       → ChangeHalt halt (call_fits s.attended.state (call_for change tables job)) (spelled (event_in (call_for change tables job))) t u came kept → HaltsSo halt s (Command number line ∷ []) t u came kept

@@ -1,5 +1,5 @@
 -- The events of requests, one after another.
-use Rattle.std.proofs.Common.{◌≡◌, ◌≤◌, ◌+◌, ℕ, zero, suc, Bool, true, false, cond, ◌&&◌, List, [], ◌∷◌, ◌++◌, length, ⊎_elim, inl, inr, ◌⊎◌, refl, sym, ap, subst, ◌∙◌, append_assoc, append-nil, length-append, arith}
+use Rattle.std.proofs.Common.{◌≡◌, ◌≤◌, ◌+◌, ℕ, zero, suc, Bool, true, false, cond, ◌&&◌, List, [], ◌∷◌, ◌++◌, length, inl, inr, ◌⊎◌, refl, sym, ap, ◌∙◌, append_assoc, append-nil, length-append, arith}
 use Rattle.std.proofs.lemmas.Bool.{false≢true}
 use Rattle.ckr_base.proofs.Bools.{and-first, and-second}
 use Rattle.ckr_cards.specs.Session.{Handed}
@@ -54,33 +54,25 @@ events_told-one s request = by (fits s request)
 -- ---- up to some call
 
 pub comes_all : (events more : List (List ℕ)) (done : List (List ℕ)) → events ≡ done ++ more → ComesTo events done done
-comes_all events more done front = record { done = done; more = more; front = front; next = []; few = omega arith; came_is = sym (append-nil done); kept_is = inl refl }
+comes_all events more done front = record { more = more; front = front; kept_is = refl }
 
 pub comes_behind : (s s' : StaffedDesk) (xs ys : List Handed) (came kept : List (List ℕ)) → all_fit s xs ≡ true → s' ≡ after_all s xs → ComesTo (events_told s' ys) came kept
     → ComesTo (events_told s (xs ++ ys)) (events_told s xs ++ came) (events_told s xs ++ kept)
 comes_behind s s' xs ys came kept fit is c = record {
-  done = events_told s xs ++ c.done;
   more = c.more;
   front = events_told-append s xs ys fit
       ∙ ap (λ st. events_told s xs ++ events_told st ys) (sym is)
       ∙ ap (λ l. events_told s xs ++ l) c.front
-      ∙ sym (append_assoc (events_told s xs) c.done c.more);
-  next = c.next;
-  few = c.few;
-  came_is = ap (λ l. events_told s xs ++ l) c.came_is ∙ sym (append_assoc (events_told s xs) c.done c.next);
-  kept_is = ⊎_elim (λ same. inl (ap (λ l. events_told s xs ++ l) same)) (λ less. inr (ap (λ l. events_told s xs ++ l) less)) c.kept_is;
+      ∙ sym (append_assoc (events_told s xs) came c.more);
+  kept_is = ap (λ l. events_told s xs ++ l) c.kept_is;
 }
 
 pub comes_before : (s : StaffedDesk) (xs ys : List Handed) (came kept : List (List ℕ)) → ComesTo (events_told s xs) came kept → ComesTo (events_told s (xs ++ ys)) came kept
 comes_before s xs ys came kept c =
     let more = events_told-front s xs ys in
     record {
-      done = c.done;
       more = c.more ++ more.0;
-      front = more.1 ∙ ap (λ l. l ++ more.0) c.front ∙ append_assoc c.done c.more more.0;
-      next = c.next;
-      few = c.few;
-      came_is = c.came_is;
+      front = more.1 ∙ ap (λ l. l ++ more.0) c.front ∙ append_assoc came c.more more.0;
       kept_is = c.kept_is;
     }
 
@@ -115,7 +107,7 @@ module _ (turn : Turn) where
   pub length-more : (made : List Reply) (reply : Reply) → length (made ++ reply ∷ []) ≡ suc (length made)
   length-more made reply = length-append made (reply ∷ []) ∙ (let more : length made + 1 ≡ suc (length made) = omega arith in more)
 
--- a call has one event at most, which is kept or isn't
+-- a call has one event at most, which an image has or lacks
 pub front_of_few : (came front more : List (List ℕ)) → length came ≤ 1 → came ≡ front ++ more → (front ≡ came) ⊎ (front ≡ [])
 front_of_few came [] more few is = inr refl
 front_of_few came (x ∷ xs) [] few is = inl (sym (is ∙ append-nil (x ∷ xs)))

@@ -1,7 +1,7 @@
 -- Requests that aren't served to their end.
-use Rattle.std.proofs.Common.{◌≡◌, ◌≤◌, ℕ, Bool, true, false, ◌&&◌, List, [], ◌∷◌, ◌++◌, Option, length, Result, Ok, Err, OnOk, IfErr, IsErrAnd, ⊎_elim, inl, inr, refl, sym, ap, subst, ◌∙◌, append_assoc, append-nil, arith}
+use Rattle.std.proofs.Common.{◌≡◌, ◌≤◌, ℕ, Bool, true, false, ◌&&◌, List, [], ◌∷◌, ◌++◌, Option, length, Result, Ok, Err, IfErr, IsErrAnd, inl, inr, refl, sym, ap, subst, ◌∙◌, append_assoc, append-nil, arith}
 use Rattle.std.specs.Io.KnownBytes.{Appends}
-use Rattle.ckr_base.proofs.KnownBytes.{Appends-nil, Appends-trans}
+use Rattle.ckr_base.proofs.KnownBytes.{Appends-trans}
 use Rattle.ckr_outside.specs.Faults.{Rose}
 use Rattle.ckr_outside.specs.Front.{AppendsFront}
 use Rattle.ckr_cards.specs.Session.{Handed}
@@ -14,7 +14,7 @@ use Rattle.ckr_service.specs.Calls.{after_all, all_fit, replies_of, broken_off}
 use Rattle.ckr_service.specs.Events.{events_told, events_before, event_at}
 use Rattle.ckr_service.specs.Texts.{answer_text}
 use Rattle.ckr_service.specs.Service.{View, Serves, BreaksOff, HaltsSo, HaltCause, WritesSo, StopsWithin, Caused, RestWritten, stop_of, text_to}
-use Rattle.ckr_service.proofs.Service.Order.{Serves-append, all_fit-append, after_all-append, text_to-append, text_to-full}
+use Rattle.ckr_service.proofs.Service.Order.{all_fit-append, after_all-append, text_to-append, text_to-full}
 use Rattle.ckr_service.proofs.Service.Events.{events_told-append, events_told-full, comes_behind, comes_before}
 
 -- ---- behind requests that were served, and before others
@@ -39,10 +39,7 @@ breaks_off_behind s s' xs ys text came kept fit is off = record {
       ∙ ap (λ st. events_told s xs ++ ((events_told s' off.served ++ events_before st off.broken given) ++ event_at st off.broken given)) behind
       ∙ sym (append_assoc (events_told s xs) (events_told s' off.served ++ events_before end off.broken given) (event_at end off.broken given))
       ∙ ap (λ l. l ++ event_at end off.broken given) before;
-  kept_is = ⊎_elim
-      (λ same. inl (ap (λ c. events_told s xs ++ c) same))
-      (λ less. inr (ap (λ c. events_told s xs ++ c) less ∙ ap (λ st. events_told s xs ++ (events_told s' off.served ++ events_before st off.broken given)) behind ∙ before))
-      off.kept_is;
+  kept_is = ap (λ c. events_told s xs ++ c) off.kept_is ∙ ap (λ st. events_told s xs ++ (events_told s' off.served ++ events_before st off.broken given)) behind ∙ before;
 }
   where
     given : ℕ

@@ -4,15 +4,15 @@ use Rattle.std.specs.Prelude.{MatchOption}
 use Rattle.std.specs.Option.{option_map}
 use Rattle.ckr_console.specs.Answering.{Answering, restart_answer}
 use Rattle.ckr_desk.specs.Model.Restart.{Decked}
-use Rattle.ckr_desk.specs.Model.OpenImages.{event_records}
 use Rattle.ckr_desk.specs.Model.Turn.{Turn}
 use Rattle.ckr_desk.specs.Requests.{behind_call}
 use Rattle.ckr_desk.specs.Soundness.{IsTrusted, KeepsWithin, state_of}
-use Rattle.ckr_desk.specs.State.{DeskView, RoomyDesk, disk_of, layout_of, operator_of}
+use Rattle.ckr_desk.specs.State.{DeskView, RoomyDesk, operator_of}
 use Rattle.ckr_desk.specs.Turn.{asks, behind_turn, operator_behind}
 use Rattle.ckr_service.specs.Service.{staffed_by}
 use Rattle.ckr_service.specs.Staff.{AttendedDesk, RosterView, StaffedDesk, behind_attended, staffed_with, with_call}
 use Rattle.ckr_service.specs.Stops.{Goes}
+use Rattle.ckr_service.proofs.Calls.Stops.{goes_none}
 
 -- of the same desk, with the same operator in office
 pub attended-same : (a b : AttendedDesk) → a.state ≡ b.state → a.operator ≡ b.operator → a ≡ b
@@ -73,10 +73,4 @@ module _ {D : Type 0} (desk : DeskView D) (operator : Option Answering) where
   -- and nothing came
   pub goes-with_operator : (content : D → List ℕ) (moment : D → ℕ) (left_since : D → ℕ → List ℕ → Type 0) (size : D → ℕ) → KeepsWithin content moment left_since size desk desk []
       → Goes content moment left_since size desk with_operator
-  goes-with_operator content moment left_since size kept = record {
-    came = [];
-    each = kept;
-    has = sym (append-nil (event_records (layout_of desk) (content (disk_of desk))));
-    same_layout = refl;
-    same_size = refl;
-  }
+  goes-with_operator content moment left_since size kept = goes_none content moment left_since size desk with_operator refl refl kept (sym (append-nil _))

@@ -1,5 +1,5 @@
 -- Runs of replies, and turns.
-use Rattle.std.proofs.Common.{◌≡◌, ◌≤◌, ◌⊎◌, ◌+◌, ◌==◌, ◌&&◌, ℕ, length, ⊎_elim, inl, inr, suc, zero, Bool, true, false, cond, List, [], ◌∷◌, ◌++◌, Option, None, Some, Result, Ok, Err, IfOk, bytes_eq, refl, sym, ap, subst, ◌∙◌, append_assoc, append-nil, arith}
+use Rattle.std.proofs.Common.{◌≡◌, ◌+◌, ◌==◌, ◌&&◌, ℕ, length, suc, zero, Bool, true, false, cond, List, [], ◌∷◌, ◌++◌, Option, None, Some, Result, Ok, Err, IfOk, bytes_eq, refl, sym, ap, subst, ◌∙◌, append_assoc, append-nil, arith}
 use Rattle.std.specs.List.{flat_map}
 use Rattle.std.proofs.lemmas.Bool.{false≢true}
 use Rattle.std.proofs.lemmas.Bool.Decides.{Decides-eqb}
@@ -371,7 +371,7 @@ module _ (layout : Layout) (turn : Turn) where
 
   -- the disk failed
   turns_broken : (n k : ℕ) (first s : AttendedDesk) (waiting : Waiting) (before now final : List ℕ) (had have came kept : List (List ℕ))
-      → came ≡ attended_event s turn → (kept ≡ came) ⊎ (kept ≡ [])
+      → came ≡ attended_event s turn → kept ≡ []
       → (h : Turns layout turn n k first s waiting before now had have) → final ≡ now ++ flat_map (run_text layout turn.initiator) (told_runs (with_waiting waiting []))
       → FirstTurns layout turn n first before final (turns_events turn (length h.made) first ++ came) (turns_events turn (length h.made) first ++ kept)
   turns_broken n k first s waiting before now final had have came kept came_is kept_is h last =
@@ -382,34 +382,28 @@ module _ (layout : Layout) (turn : Turn) where
         given = h.replies;
         told = broken_text h.made h.ended waiting before now final h.joins h.none h.written last;
         came_is = ap (λ c. events ++ c) came_is ∙ ap (λ st. events ++ attended_event st turn) h.behind;
-        kept_is = ⊎_elim (λ same. inl (ap (λ c. events ++ c) same)) (λ none. inr (ap (λ c. events ++ c) none ∙ append-nil events)) kept_is;
+        kept_is = ap (λ c. events ++ c) kept_is ∙ append-nil events;
       }
 
-  -- memory ran out, perhaps behind another halt
-  turns_unsaid : (n k : ℕ) (first s : AttendedDesk) (waiting : Waiting) (before now : List ℕ) (had have came kept : List (List ℕ)) → length came ≤ 1 → (kept ≡ came) ⊎ (kept ≡ [])
+  -- memory ran out
+  turns_unsaid : (n k : ℕ) (first s : AttendedDesk) (waiting : Waiting) (before now : List ℕ) (had have came kept : List (List ℕ)) → came ≡ [] → kept ≡ []
       → (h : Turns layout turn n k first s waiting before now had have)
       → ComesTo (turns_events turn (length (turns turn n first)) first) (turns_events turn (length h.made) first ++ came) (turns_events turn (length h.made) first ++ kept)
-  turns_unsaid n k first s waiting before now had have came kept few kept_is h =
+  turns_unsaid n k first s waiting before now had have came kept came_none kept_none h =
       let events = turns_events turn (length h.made) first in
       record {
-        done = events;
         more = turns_events turn (length (turns turn k s)) (behind_turns turn (length h.made) first);
-        front = turns_events-front turn n first h.made (turns turn k s) h.replies;
-        next = came;
-        few = few;
-        came_is = refl;
-        kept_is = ⊎_elim (λ same. inl (ap (λ c. events ++ c) same)) (λ none. inr (ap (λ c. events ++ c) none ∙ append-nil events)) kept_is;
+        front = turns_events-front turn n first h.made (turns turn k s) h.replies
+            ∙ ap (λ l. l ++ turns_events turn (length (turns turn k s)) (behind_turns turn (length h.made) first)) (sym (ap (λ c. events ++ c) came_none ∙ append-nil events));
+        kept_is = ap (λ c. events ++ c) (kept_none ∙ sym came_none);
       }
-
-  none-few : (came : List (List ℕ)) → came ≡ [] → length came ≤ 1
-  none-few came none = (let long : length came ≡ 0 = ap length none in omega (arith, long))
 
   -- why not all turns were made
   pub turns_halted : (halt : Halt) (n k m : ℕ) (first s : AttendedDesk) (waiting : Waiting) (before now final : List ℕ) (had have came kept : List (List ℕ)) → k ≡ suc m
       → TurnHalt halt turn s came kept → (h : Turns layout turn n k first s waiting before now had have) → final ≡ now ++ flat_map (run_text layout turn.initiator) (told_runs (with_waiting waiting []))
       → TurnsHalt layout turn halt n first before final (turns_events turn (length h.made) first ++ came) (turns_events turn (length h.made) first ++ kept)
   turns_halted Halts.Memory n k m first s waiting before now final had have came kept less why h last =
-      turns_unsaid n k first s waiting before now had have came kept (none-few came why.0) (inr why.1) h
+      turns_unsaid n k first s waiting before now had have came kept why.0 why.1 h
   turns_halted Halts.Book n k m first s waiting before now final had have came kept less why h last = turns_full n k m first s waiting before now final had have came kept less why.0 why.1 why.2 h last
   turns_halted Halts.Disk n k m first s waiting before now final had have came kept less why h last = turns_broken n k first s waiting before now final had have came kept why.0 why.1 h last
 

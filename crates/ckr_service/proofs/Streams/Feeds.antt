@@ -16,7 +16,7 @@ use Rattle.ckr_service.specs.Service.{View, StopsWithin, Caused, seen}
 use Rattle.ckr_service.specs.Stream.{is_line_end, requests_of}
 use Rattle.ckr_service.specs.Flows.{IsBegun, Carries, Breaks, Finishes, FinishBreaks, told_so_far}
 use Rattle.ckr_service.specs.Events.{events_told}
-use Rattle.ckr_service.specs.Stops.{Goes, Has, KeepsTo, Stopped}
+use Rattle.ckr_service.specs.Stops.{Goes, HasSuch, KeepsTo, Stopped}
 use Rattle.ckr_service.proofs.Calls.Stops.{came_exactly, goes_then, stopped_behind, stopped_here}
 use Rattle.ckr_service.specs.Feeds.{IsServed, IsStopped, StopCause, StopsAt, HasServed, Serving, Faults, faults_of, Feeding, FedAll}
 use Rattle.ckr_service.proofs.Service.Halts.{rose_earlier, cause_earlier, stops_earlier}
@@ -120,8 +120,8 @@ module _ {D O : Type 0} (content : D → List ℕ) (moment : D → ℕ) (left_si
   abbrev EachTo : D → List (List ℕ) → Type 0
   EachTo = KeepsTo content moment left_since size a.desk
 
-  abbrev HasTo : D → List (List ℕ) → Type 0
-  HasTo = Has content moment left_since size a.desk
+  abbrev HasTo : D → (List (List ℕ) → Type 0) → Type 0
+  HasTo = HasSuch content moment left_since size a.desk
 
   abbrev GoesTo : Flow D O → Type 0
   GoesTo f = Goes content moment left_since size a.desk f.session.clerk.desk
@@ -246,7 +246,7 @@ module _ {D O : Type 0} (content : D → List ℕ) (moment : D → ℕ) (left_si
       stopped_at_end here f (disk_of g.session.clerk.desk) left rest old mid new stop c d before between after before' between' after' h goes err later later' stays cause
 
 -- the exit of a `?` that hands the stop on, of a whole stream
-pub serving_stopped : (trusted : Type 0) (each has : List (List ℕ) → Type 0) (state : StaffedDesk) (r : Result Bool Stop) (stop : Stop) (faults : Faults) (left rest old new : Option (List ℕ)) → IsErrAnd r (λ s. s ≡ stop)
+pub serving_stopped : (trusted : Type 0) (each : List (List ℕ) → Type 0) (has : (List (List ℕ) → Type 0) → Type 0) (state : StaffedDesk) (r : Result Bool Stop) (stop : Stop) (faults : Faults) (left rest old new : Option (List ℕ)) → IsErrAnd r (λ s. s ≡ stop)
     → IsStopped trusted each has state stop faults left rest old new → Serving trusted each has state r faults left rest old new
 serving_stopped trusted each has state (Ok x) stop faults left rest old new h s = absurd h
 serving_stopped trusted each has state (Err x) stop faults left rest old new h s = subst (λ (w : Stop). IsStopped trusted each has state w faults left rest old new) (sym h) s

@@ -1,4 +1,4 @@
-use Rattle.std.proofs.Common.{◌≡◌, ◌++◌, ◌∙◌, ℕ, List, map}
+use Rattle.std.proofs.Common.{◌∙◌, ℕ, List, map}
 use Rattle.ckr_desk.specs.FirstSync.{FromSync, IsLeft}
 use Rattle.ckr_desk.specs.Model.Layout.{Layout}
 use Rattle.ckr_desk.specs.Model.OpenImages.{event_records}
@@ -6,7 +6,7 @@ use Rattle.ckr_desk.specs.Soundness.{AllSound, HasKept, IsTrusted, state_of}
 use Rattle.ckr_desk.specs.State.{disk_of, layout_of, opened_of}
 use Rattle.ckr_service.specs.Service.{staffed_by}
 use Rattle.ckr_service.specs.Staff.{staffed_with}
-use Rattle.ckr_service.specs.Stops.{Has, KeepsTo}
+use Rattle.ckr_service.specs.Stops.{HasEverywhere, HasSuch, KeepsTo}
 use Rattle.ckr_service.proofs.Calls.Ends.{run_ended, run_not_opened}
 use Rattle.ckr_service.proofs.Calls.OpenStops.{all_sound_after, each_served, has_served, sound_from, sound_left}
 use Rattle.ckr_service.proofs.Service.Ends.{serving_so, some_came}
@@ -24,15 +24,15 @@ returns-in-Ok g c =
     let outcome = c.serve-outcome.result.outcome in
     let laws = g.met.D.Disk g.world.𝓛 g.world.𝓜 g.world.𝓡 ((λ s x. x), (λ x. x), (λ x. x), λ x. x) in
     let each : Layout → List (List ℕ) → Type 0 = λ layout came. FromSync d.content d.may_leave d.moment d.left_since disk end (HasKept layout (d.size disk) (event_records layout (d.content disk)) came) in
-    let has : Layout → List (List ℕ) → Type 0 = λ layout kept. event_records layout (d.content end) ≡ event_records layout (d.content disk) ++ kept in
+    let has : Layout → (List (List ℕ) → Type 0) → Type 0 = λ layout. HasEverywhere d.content d.may_leave layout (event_records layout (d.content disk)) end in
     let operators = map g.O.Operator.answering c.args.operators.items in
     let start = staffed_with operators (state_of d.content desk) in
     let opened = staffed-opened d.content g.O.Operator.answering operators c.next-operator.result desk c.new-roster.result c.next-operator.new.self
     c.new-roster.ensures.later c.new-roster.ensures.place c.next-operator.ensures e.operator in
-    let served = serving_so (IsTrusted d.told d.content d.may_leave desk) (AllSound d.told d.may_leave d.size disk) (KeepsTo d.content d.moment d.left_since d.size desk end) (Has d.content d.moment d.left_since d.size desk end)
-    (each (layout_of desk)) (has (layout_of desk)) e.trusted
+    let served = serving_so (IsTrusted d.told d.content d.may_leave desk) (AllSound d.told d.may_leave d.size disk) (KeepsTo d.content d.moment d.left_since d.size desk end) (each (layout_of desk))
+    (HasSuch d.content d.moment d.left_since d.size desk end) (has (layout_of desk)) e.trusted
     (λ all came. each_served d.told d.content d.may_leave d.moment d.left_since d.size disk desk end (e.kept all) (e.records all.tells) e.size came)
-    (λ all kept. has_served d.told d.content d.may_leave d.moment d.left_since d.size disk desk end (e.records all.tells) kept)
+    (λ all Such. has_served d.told d.content d.may_leave d.moment d.left_since d.size disk desk end (e.records all.tells) (laws.counts_now end) Such)
     (staffed_by d.content desk c.next-operator.new.self) start outcome _ _ _ _ (d.faults disk) (d.faults (disk_of desk)) (d.faults end) _ _ _ _ e.never_falls opened s.served in
     let safe = (λ (all : AllSound d.told d.may_leave d.size disk).
     (let came = some_came (AllSound d.told d.may_leave d.size disk) (each (layout_of desk)) (has (layout_of desk)) start outcome _ _ _ _ _ served all in

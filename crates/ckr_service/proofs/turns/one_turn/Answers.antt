@@ -18,6 +18,7 @@ returns-in-Ok-clause-goes g c holds =
     let d = g.D.Disk in
     let e = c.in-Ok.ensures in
     goes_done d.content d.moment d.left_since d.size c.args.desk.now c.turn.new.self _ e.keeps.same_layout e.keeps.same_size (e.kept c.requires.is_open holds) (e.comes holds).events
+    (c.layout-layout.ensures.kept e.keeps.is_open (e.comes holds).trusted)
 
 pub returns-in-Err-NoMemory-clause-halt : goal.returns-in-Err-NoMemory-clause-halt
 returns-in-Err-NoMemory-clause-halt g c holds =
@@ -48,7 +49,7 @@ returns-in-Err-DiskFault-clause-halt g c holds =
     with_failed_disk d.content d.moment d.left_since d.size d.may_leave old new came (TurnHalt Halts.Disk c.args.turn s)
     (laws.reads_an_image (disk_of new) holds.tells) (laws.counts_now (disk_of new)) (turn-few s.state c.args.turn (restart_answer s.operator))
     (failed_kept d.content d.moment d.left_since d.size Reply old new c.in-Err-DiskFault.field-0 came c.in-Err-DiskFault.field-0-is (e.kept c.requires.is_open holds))
-    (λ kept either. (refl, either))
+    (refl, refl)
 
 pub returns-in-Ok-clause-fits : goal.returns-in-Ok-clause-fits
 returns-in-Ok-clause-fits g c holds = turn-fits (state_of g.D.Disk.content c.args.desk.now) c.args.turn (restart_answer (operator_of c.args.desk.now)) (c.in-Ok.ensures.comes holds).fits

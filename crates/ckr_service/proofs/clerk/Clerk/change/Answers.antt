@@ -19,7 +19,8 @@ returns-in-Ok-true-clause-goes g c holds =
     let d = g.D.Disk in
     let old = c.args.self.now.desk in
     let e = c.in-Ok-true.ensures in
-    on_ok c.tell_changed.result _ (goes_done d.content d.moment d.left_since d.size old c.change_job.new.desk _ e.keeps.same_layout e.keeps.same_size (e.kept c.requires.is_open holds) (e.told holds.tells))
+    on_ok c.tell_changed.result _ (goes_done d.content d.moment d.left_since d.size old c.change_job.new.desk _ e.keeps.same_layout e.keeps.same_size (e.kept c.requires.is_open holds) (e.told holds.tells)
+    (c.layout-layout.ensures.kept e.keeps.is_open (e.comes holds).trusted))
 
 pub returns-in-Ok-false-clause-goes : goal.returns-in-Ok-false-clause-goes
 returns-in-Ok-false-clause-goes g c holds =
@@ -27,7 +28,8 @@ returns-in-Ok-false-clause-goes g c holds =
     let old = c.args.self.now.desk in
     let e = c.in-Ok-false.ensures in
     goes_on_to d.content d.moment d.left_since d.size c.refuse_line.result old c.change_job.new.desk _ c.refuse_line.ensures.desk
-    (goes_done d.content d.moment d.left_since d.size old c.change_job.new.desk _ e.keeps.same_layout e.keeps.same_size (e.kept c.requires.is_open holds) (e.told holds.tells))
+    (goes_done d.content d.moment d.left_since d.size old c.change_job.new.desk _ e.keeps.same_layout e.keeps.same_size (e.kept c.requires.is_open holds) (e.told holds.tells)
+    (c.layout-layout-in-Ok-false.ensures.kept e.keeps.is_open (e.comes holds).trusted))
 
 pub returns-in-Ok-true-clause-halt : goal.returns-in-Ok-true-clause-halt
 returns-in-Ok-true-clause-halt g c holds =
@@ -39,7 +41,8 @@ returns-in-Ok-true-clause-halt g c holds =
     let came = spelled (event_in call) in
     let fits = call_fits (state_of d.content old) call in
     memory_here d.content d.moment d.left_since d.size c.tell_changed.result old new new came (λ halt. ChangeHalt halt fits came c.args.out.now c.tell_changed.new.out) refl
-    (goes_done d.content d.moment d.left_since d.size old new came e.keeps.same_layout e.keeps.same_size (e.kept c.requires.is_open holds) (e.told holds.tells))
+    (goes_done d.content d.moment d.left_since d.size old new came e.keeps.same_layout e.keeps.same_size (e.kept c.requires.is_open holds) (e.told holds.tells)
+    (c.layout-layout.ensures.kept e.keeps.is_open (e.comes holds).trusted))
     (came_there d.content old new came e.keeps.same_layout (e.told holds.tells)) (comes_with fits came (call-fits (state_of d.content old) call (e.comes holds).fits)) c.tell_changed.ensures.halt
 
 pub returns-in-Ok-false-clause-halt : goal.returns-in-Ok-false-clause-halt
@@ -52,7 +55,8 @@ returns-in-Ok-false-clause-halt g c holds =
     let came = spelled (event_in call) in
     let fits = call_fits (state_of d.content old) call in
     memory_here d.content d.moment d.left_since d.size c.refuse_line.result old new _ came (λ halt. ChangeHalt halt fits came c.args.out.now c.refuse_line.new.out) c.refuse_line.ensures.desk
-    (goes_done d.content d.moment d.left_since d.size old new came e.keeps.same_layout e.keeps.same_size (e.kept c.requires.is_open holds) (e.told holds.tells))
+    (goes_done d.content d.moment d.left_since d.size old new came e.keeps.same_layout e.keeps.same_size (e.kept c.requires.is_open holds) (e.told holds.tells)
+    (c.layout-layout-in-Ok-false.ensures.kept e.keeps.is_open (e.comes holds).trusted))
     (came_there d.content old new came e.keeps.same_layout (e.told holds.tells)) (comes_with fits came (call-fits (state_of d.content old) call (e.comes holds).fits)) c.refuse_line.ensures.halt
 
 pub returns-in-Err-NoMemory-clause-halt : goal.returns-in-Err-NoMemory-clause-halt
@@ -88,7 +92,7 @@ returns-in-Err-DiskFault-clause-halt g c holds =
     with_failed_disk d.content d.moment d.left_since d.size d.may_leave old new came (ChangeHalt Halts.Disk (call_fits (state_of d.content old) call) came c.args.out.now c.args.out.now)
     (laws.reads_an_image (disk_of new) holds.tells) (laws.counts_now (disk_of new)) (call-few call)
     (failed_kept d.content d.moment d.left_since d.size Bool old new c.in-Err-DiskFault.field-0 came c.in-Err-DiskFault.field-0-is (e.kept c.requires.is_open holds))
-    (λ kept either. (refl, refl, either))
+    (refl, refl, refl)
 
 pub returns-in-Ok-true-clause-fits : goal.returns-in-Ok-true-clause-fits
 returns-in-Ok-true-clause-fits g c holds =

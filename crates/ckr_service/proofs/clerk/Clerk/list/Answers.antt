@@ -1,4 +1,4 @@
-use Rattle.std.proofs.Common.{[], ⊎_elim, arith, ap, refl, subst, ◌∙◌}
+use Rattle.std.proofs.Common.{[], arith, ap, refl, subst, ◌∙◌}
 use Rattle.ckr_desk.specs.NoChange.{StaysBy}
 use Rattle.ckr_desk.specs.Soundness.{state_of}
 use Rattle.ckr_desk.specs.State.{disk_of, operator_of}
@@ -7,7 +7,7 @@ use Rattle.ckr_service.specs.Service.{ListHalt, staffed_by, staffed_of}
 use Rattle.ckr_service.proofs.Service.Staff.{staffed-same}
 use Rattle.ckr_service.proofs.Cards.{on_ok}
 use Rattle.ckr_service.proofs.Calls.Halts.{memory_here}
-use Rattle.ckr_service.proofs.Calls.Stops.{came_there, goes_done, goes_on_to, has_none, nothing_came, with_failed_disk}
+use Rattle.ckr_service.proofs.Calls.Stops.{came_there, goes_none, goes_on_to, has_none, nothing_came, with_failed_disk}
 use Rattle.ckr_service.proofs.clerk.Clerk.list.Goals as goal
 
 pub returns-in-Ok-Some-clause-goes : goal.returns-in-Ok-Some-clause-goes
@@ -18,7 +18,7 @@ returns-in-Ok-Some-clause-goes g c holds =
     let new = c.records.new.self in
     let e = c.in-Ok-Some.ensures in
     let kept = e.kept c.requires.is_open holds in
-    on_ok c.tell.result _ (goes_done d.content d.moment d.left_since d.size old new [] e.keeps.same_layout e.keeps.same_size kept
+    on_ok c.tell.result _ (goes_none d.content d.moment d.left_since d.size old new e.keeps.same_layout e.keeps.same_size kept
     (has_none d.content d.moment d.left_since d.size d.may_leave old new (laws.reads_an_image (disk_of new) holds.tells) (laws.counts_now (disk_of new)) kept))
 
 pub returns-in-Ok-None-clause-goes : goal.returns-in-Ok-None-clause-goes
@@ -29,7 +29,7 @@ returns-in-Ok-None-clause-goes g c holds =
     let new = c.records.new.self in
     let e = c.in-Ok-None.ensures in
     let kept = e.kept c.requires.is_open holds in
-    goes_on_to d.content d.moment d.left_since d.size c.refuse_line.result old new _ c.refuse_line.ensures.desk (goes_done d.content d.moment d.left_since d.size old new [] e.keeps.same_layout e.keeps.same_size kept
+    goes_on_to d.content d.moment d.left_since d.size c.refuse_line.result old new _ c.refuse_line.ensures.desk (goes_none d.content d.moment d.left_since d.size old new e.keeps.same_layout e.keeps.same_size kept
     (has_none d.content d.moment d.left_since d.size d.may_leave old new (laws.reads_an_image (disk_of new) holds.tells) (laws.counts_now (disk_of new)) kept))
 
 pub returns-in-Ok-Some-clause-events : goal.returns-in-Ok-Some-clause-events
@@ -61,7 +61,7 @@ returns-in-Ok-Some-clause-halt g c holds =
     let kept = e.kept c.requires.is_open holds in
     let none = has_none d.content d.moment d.left_since d.size d.may_leave old new (laws.reads_an_image (disk_of new) holds.tells) (laws.counts_now (disk_of new)) kept in
     memory_here d.content d.moment d.left_since d.size c.tell.result old new new [] (λ halt. ListHalt halt c.args.out.now c.tell.new.out) refl
-    (goes_done d.content d.moment d.left_since d.size old new [] e.keeps.same_layout e.keeps.same_size kept none) (came_there d.content old new [] e.keeps.same_layout none) (refl, refl) c.tell.ensures.halt
+    (goes_none d.content d.moment d.left_since d.size old new e.keeps.same_layout e.keeps.same_size kept none) (came_there d.content old new [] e.keeps.same_layout none) (refl, refl) c.tell.ensures.halt
 
 pub returns-in-Ok-None-clause-halt : goal.returns-in-Ok-None-clause-halt
 returns-in-Ok-None-clause-halt g c holds =
@@ -73,7 +73,7 @@ returns-in-Ok-None-clause-halt g c holds =
     let kept = e.kept c.requires.is_open holds in
     let none = has_none d.content d.moment d.left_since d.size d.may_leave old new (laws.reads_an_image (disk_of new) holds.tells) (laws.counts_now (disk_of new)) kept in
     memory_here d.content d.moment d.left_since d.size c.refuse_line.result old new _ [] (λ halt. ListHalt halt c.args.out.now c.refuse_line.new.out) c.refuse_line.ensures.desk
-    (goes_done d.content d.moment d.left_since d.size old new [] e.keeps.same_layout e.keeps.same_size kept none) (came_there d.content old new [] e.keeps.same_layout none) (refl, refl) c.refuse_line.ensures.halt
+    (goes_none d.content d.moment d.left_since d.size old new e.keeps.same_layout e.keeps.same_size kept none) (came_there d.content old new [] e.keeps.same_layout none) (refl, refl) c.refuse_line.ensures.halt
 
 pub returns-in-Err-NoMemory-clause-halt : goal.returns-in-Err-NoMemory-clause-halt
 returns-in-Err-NoMemory-clause-halt g c holds =
@@ -93,7 +93,7 @@ returns-in-Err-DiskFault-clause-halt g c holds =
     let e = c.in-Err-DiskFault.ensures in
     with_failed_disk d.content d.moment d.left_since d.size d.may_leave old new [] (ListHalt Halts.Disk c.args.out.now c.args.out.now)
     (laws.reads_an_image (disk_of new) holds.tells) (laws.counts_now (disk_of new)) (omega arith) (e.kept c.requires.is_open holds)
-    (λ kept either. (refl, refl, ⊎_elim (λ none. none) (λ none. none) either))
+    (refl, refl, refl)
 
 pub returns-in-Ok-Some-clause-state : goal.returns-in-Ok-Some-clause-state
 returns-in-Ok-Some-clause-state g c holds =

@@ -74,7 +74,8 @@ returns-in-Ok-Job-clause-halt g c holds =
     let there = tables_in d.told d.content d.may_leave old holds in
     let came = spelled (event_in (submit_call (tables_in_memory old) cards)) in
     memory_here d.content d.moment d.left_since d.size c.accept.result old new _ came (λ halt. HaltsSo halt s (Deck cards ∷ []) c.args.out.now c.accept.new.out) (ap (λ (o : _). o.desk) c.accept.ensures.clerk)
-    (goes_done d.content d.moment d.left_since d.size old new came e.keeps.same_layout e.keeps.same_size (e.kept c.requires.is_open holds) (e.told holds.tells))
+    (goes_done d.content d.moment d.left_since d.size old new came e.keeps.same_layout e.keeps.same_size (e.kept c.requires.is_open holds) (e.told holds.tells)
+    (c.layout-layout.ensures.kept e.keeps.is_open (e.comes holds).trusted))
     (came_there d.content old new came e.keeps.same_layout (e.told holds.tells))
     (comes_one s (Deck cards) came came
     (subst (λ (t : TablesModel). ComesTo (request_events s (Deck cards)) (spelled (event_in (submit_call t cards))) (spelled (event_in (submit_call t cards)))) (sym there)
@@ -92,7 +93,8 @@ returns-in-Ok-Refused-clause-halt g c holds =
     let there = tables_in d.told d.content d.may_leave old holds in
     let came = spelled (event_in (submit_call (tables_in_memory old) cards)) in
     memory_here d.content d.moment d.left_since d.size c.refuse_deck.result old new _ came (λ halt. HaltsSo halt s (Deck cards ∷ []) c.args.out.now c.refuse_deck.new.out) c.refuse_deck.ensures.desk
-    (goes_done d.content d.moment d.left_since d.size old new came e.keeps.same_layout e.keeps.same_size (e.kept c.requires.is_open holds) (e.told holds.tells))
+    (goes_done d.content d.moment d.left_since d.size old new came e.keeps.same_layout e.keeps.same_size (e.kept c.requires.is_open holds) (e.told holds.tells)
+    (c.layout-layout-in-Ok-Refused.ensures.kept e.keeps.is_open (e.comes holds).trusted))
     (came_there d.content old new came e.keeps.same_layout (e.told holds.tells))
     (comes_one s (Deck cards) came came
     (subst (λ (t : TablesModel). ComesTo (request_events s (Deck cards)) (spelled (event_in (submit_call t cards))) (spelled (event_in (submit_call t cards)))) (sym there)
@@ -135,7 +137,7 @@ returns-in-Err-DiskFault-clause-halt g c holds =
     with_failed_disk d.content d.moment d.left_since d.size d.may_leave old new came (HaltsSo Halts.Disk s (Deck cards ∷ []) c.args.out.now c.args.out.now)
     (laws.reads_an_image (disk_of new) holds.tells) (laws.counts_now (disk_of new)) (call-few call)
     (failed_kept d.content d.moment d.left_since d.size Submitted old new c.in-Err-DiskFault.field-0 came c.in-Err-DiskFault.field-0-is (e.kept c.requires.is_open holds))
-    (λ kept either. broken_at_once s (Deck cards) c.args.out.now came kept refl (ap (λ (t : TablesModel). spelled (event_in (submit_call t cards))) (tables_in d.told d.content d.may_leave old holds)) either)
+    (broken_at_once s (Deck cards) c.args.out.now came [] refl (ap (λ (t : TablesModel). spelled (event_in (submit_call t cards))) (tables_in d.told d.content d.may_leave old holds)) refl)
 
 pub returns-in-Ok-Job-clause-goes : goal.returns-in-Ok-Job-clause-goes
 returns-in-Ok-Job-clause-goes g c holds =
@@ -143,7 +145,8 @@ returns-in-Ok-Job-clause-goes g c holds =
     let old = c.args.self.now.desk in
     let e = c.in-Ok-Job.ensures in
     goes_on_to d.content d.moment d.left_since d.size c.accept.result old c.submit.new.self _ (ap (λ (o : _). o.desk) c.accept.ensures.clerk)
-    (goes_done d.content d.moment d.left_since d.size old c.submit.new.self _ e.keeps.same_layout e.keeps.same_size (e.kept c.requires.is_open holds) (e.told holds.tells))
+    (goes_done d.content d.moment d.left_since d.size old c.submit.new.self _ e.keeps.same_layout e.keeps.same_size (e.kept c.requires.is_open holds) (e.told holds.tells)
+    (c.layout-layout.ensures.kept e.keeps.is_open (e.comes holds).trusted))
 
 pub returns-in-Ok-Refused-clause-goes : goal.returns-in-Ok-Refused-clause-goes
 returns-in-Ok-Refused-clause-goes g c holds =
@@ -151,7 +154,8 @@ returns-in-Ok-Refused-clause-goes g c holds =
     let old = c.args.self.now.desk in
     let e = c.in-Ok-Refused.ensures in
     goes_on_to d.content d.moment d.left_since d.size c.refuse_deck.result old c.submit.new.self _ c.refuse_deck.ensures.desk
-    (goes_done d.content d.moment d.left_since d.size old c.submit.new.self _ e.keeps.same_layout e.keeps.same_size (e.kept c.requires.is_open holds) (e.told holds.tells))
+    (goes_done d.content d.moment d.left_since d.size old c.submit.new.self _ e.keeps.same_layout e.keeps.same_size (e.kept c.requires.is_open holds) (e.told holds.tells)
+    (c.layout-layout-in-Ok-Refused.ensures.kept e.keeps.is_open (e.comes holds).trusted))
 
 pub returns-in-Ok-Job-clause-trusted : goal.returns-in-Ok-Job-clause-trusted
 returns-in-Ok-Job-clause-trusted g c =
