@@ -67,23 +67,13 @@ is_of_step _ = false
 
 -- an event follows, if it isn't one of these
 abbrev pub FollowsBetween : Layout → TablesModel → Plan → Type 0
-FollowsBetween layout tables (Rest reply) = Unit {0}
 FollowsBetween layout tables (Tell reply event) = is_of_step event ≡ false → follows layout tables event None ≡ true
-FollowsBetween layout tables (Work job) = Unit {0}
-FollowsBetween layout tables (Pass job reply) = Unit {0}
-FollowsBetween layout tables (Take job) = Unit {0}
-FollowsBetween layout tables (Ask inquiry) = Unit {0}
-FollowsBetween layout tables (Wait job code) = Unit {0}
+FollowsBetween layout tables _ = Unit {0}
 
 -- an event that follows does so if it isn't one of these
 between-from : (layout : Layout) (tables : TablesModel) (plan : Plan) → PlanFollows layout tables plan → FollowsBetween layout tables plan
-between-from layout tables (Rest reply) follow = tt
 between-from layout tables (Tell reply event) follow = λ not. follow
-between-from layout tables (Work job) follow = tt
-between-from layout tables (Pass job reply) follow = tt
-between-from layout tables (Take job) follow = tt
-between-from layout tables (Ask inquiry) follow = tt
-between-from layout tables (Wait job code) follow = tt
+between-from layout tables _ follow = tt
 
 refused-all : (all : Result Allocation Refusal) (refusal : Refusal) → items_in all ≡ Err refusal → all ≡ Err refusal
 refused-all (Ok done) refusal e = cc

@@ -1,5 +1,6 @@
 -- How many data sets, rewrites and runs events can have added.
-use Rattle.std.specs.Prelude.{◌≤◌, ℕ, suc, List, length, sum_by}
+use Rattle.std.specs.Prelude.{◌≤◌, ◌<◌, ℕ, suc, List, length, sum_by}
+use Rattle.std.specs.List.{AllByRecursion}
 use Rattle.ckr_events.specs.declared.event.Event.{Event}
 use Rattle.ckr_events.specs.declared.event.Event.TheVariants.{Started, Submitted}
 use Rattle.ckr_points.specs.Restart.{Decked}
@@ -20,6 +21,14 @@ decks_of _ = 0
 
 abbrev pub decks_in : List Decked → ℕ
 decks_in events = sum_by (λ event. decks_of event.0) events
+
+-- the event of a deck that is submitted keeps a card
+abbrev pub KeepsCards : Event → Type 0
+KeepsCards (Submitted job cards) = 0 < length cards
+KeepsCards _ = Unit {0}
+
+abbrev pub KeepCards : List Decked → Type 0
+KeepCards events = AllByRecursion (λ (one : Decked). KeepsCards one.0) events
 
 -- the stamp of a data set tells at most so many rewrites
 abbrev pub HasRewrites : ℕ → TableSet → Type 0

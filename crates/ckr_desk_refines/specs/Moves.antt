@@ -60,13 +60,8 @@ reply_in (Ask inquiry) = Idle
 reply_in (Wait job code) = AwaitingReply
 
 abbrev pub event_in : Plan → Option Event
-event_in (Rest reply) = None
 event_in (Tell reply event) = Some event
-event_in (Work job) = None
-event_in (Pass job reply) = None
-event_in (Take job) = None
-event_in (Ask inquiry) = None
-event_in (Wait job code) = None
+event_in _ = None
 
 -- An image has what another one has of each data set that lies apart from this one, and of this one each record but the one at a place.
 pub record DiffersAt (layout : Layout) (set : DataSet) (place : ℕ) (told image : List ℕ) : Type 0 where

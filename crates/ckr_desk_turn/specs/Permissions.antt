@@ -1,13 +1,11 @@
--- What the deferred rules say of a queued run with RESTART that comes to an initiator, where it stands behind its selection, and which job and which
--- library it begins on.
+-- What the deferred rules say of a queued run with RESTART that comes to an initiator, and where it stands behind its selection.
 use Rattle.std.specs.Prelude.{◌≡◌, ◌≤◌, ℕ, None, Some}
 use Rattle.ckr_events.specs.declared.event.Event.TheVariants.{Selected as SelectedEvent}
 use Rattle.ckr_jcl.specs.declared.deck.Restart.{Restart}
 use Rattle.ckr_meaning.specs.declared.place.Place.TheVariants.{Opened, Within}
 use Rattle.ckr_points.specs.declared.run.RunState.TheVariants.{Queued}
 use Rattle.ckr_points.specs.Marks.{point_at}
-use Rattle.ckr_points.specs.Office.{Leg, Office, continued_leg, leg_of}
-use Rattle.ckr_points.specs.Restart.{spliced}
+use Rattle.ckr_points.specs.Office.{Leg}
 use Rattle.ckr_points.specs.RuleCases.{wanted_of}
 use Rattle.ckr_points.specs.Rows.{KeptEntry, RunRow, StartPoint}
 use Rattle.ckr_points_invariant.specs.Restorability.{StandsAt}
@@ -49,12 +47,3 @@ pub record GoesOnAtEntry (desk : DeskModel) (initiator : ℕ) (row : RunRow) (re
   pub stands : StandsAt (behind (SelectedEvent row.number initiator other.number restart.step (Some entry.kept.id)) None desk).office row.number own (Within restart.step entry.point.writes) entry.point.count
   pub going : IsGoing (behind (SelectedEvent row.number initiator other.number restart.step (Some entry.kept.id)) None desk).office (at_entry row.number entry.point)
   pub running : progress_of (behind (SelectedEvent row.number initiator other.number restart.step (Some entry.kept.id)) None desk) row.number ≡ Some (at_entry row.number entry.point).progress
-
--- A run that continues an earlier one at a step: its job is that one's steps up to it and its own later ones, and it begins on what that one
--- began on, under the names of that one's job, and under all others on what the ended jobs have left.
-pub record BeginsOn (office behind : Office) (row : RunRow) (earlier step : ℕ) : Type 0 where
-  pub other : Leg
-  pub led : leg_of office earlier ≡ Some other
-  pub at_step : row.earlier_step ≡ step
-  pub job : row.job ≡ spliced other.job step row.number row.deck
-  pub begins : leg_of behind row.number ≡ Some (continued_leg office row other)

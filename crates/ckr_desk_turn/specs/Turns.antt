@@ -1,5 +1,5 @@
--- A turn of the desk, and turns one after the other.
-use Rattle.std.specs.Prelude.{List, [], ◌∷◌}
+-- A turn of the desk, turns one after the other, and which job and which library a run begins on that continues another one.
+use Rattle.std.specs.Prelude.{◌≡◌, ℕ, List, [], ◌∷◌, Some}
 use Rattle.ckr_console.specs.declared.question.Answer.{Answer}
 use Rattle.ckr_desk_turn.specs.declared.plan.Plan.{Plan}
 use Rattle.ckr_desk_turn.specs.declared.plan.Plan.TheVariants.{Rest, Tell, Work, Pass, Take, Ask, Wait}
@@ -9,6 +9,9 @@ use Rattle.ckr_desk_turn.specs.Desk.{DeskModel, TurnDone, answered, done_by, job
 use Rattle.ckr_desk_turn.specs.Invariant.{IsTurnOf}
 use Rattle.ckr_desk_turn.specs.Plans.{plan_of}
 use Rattle.ckr_desk_turn.specs.Taken.{taken_of}
+use Rattle.ckr_points.specs.Office.{Leg, Office, continued_leg, leg_of}
+use Rattle.ckr_points.specs.Restart.{spliced}
+use Rattle.ckr_points.specs.Rows.{RunRow}
 use Rattle.ckr_volumes.specs.declared.layout.Layout.{Layout}
 
 -- a unit and a checkpoint come to what the running step decides, and a question to what the operator does
@@ -43,3 +46,12 @@ replies_of (one ∷ rest) desk = let done = turn_of desk one.turn one.answer in 
 abbrev pub desk_after : List AnsweredTurn → DeskModel → DeskModel
 desk_after [] desk = desk
 desk_after (one ∷ rest) desk = desk_after rest (turn_of desk one.turn one.answer).desk
+
+-- A run that continues an earlier one at a step: its job is that one's steps up to it and its own later ones, and it begins on what that one
+-- began on, under the names of that one's job, and under all others on what the ended jobs have left.
+pub record BeginsOn (office behind : Office) (row : RunRow) (earlier step : ℕ) : Type 0 where
+  pub other : Leg
+  pub led : leg_of office earlier ≡ Some other
+  pub at_step : row.earlier_step ≡ step
+  pub job : row.job ≡ spliced other.job step row.number row.deck
+  pub begins : leg_of behind row.number ≡ Some (continued_leg office row other)

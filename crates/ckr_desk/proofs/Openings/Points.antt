@@ -148,12 +148,7 @@ kind_at n = if n == 1 then Copy else if n == 2 then Select else if n == 3 then M
 
 kind-back : (kind : Kind) → kind_at (kind_number kind) ≡ kind
 kind-back Copy = refl
-kind-back Select = refl
-kind-back Merge = refl
-kind-back Master = refl
-kind-back Update = refl
-kind-back Print = refl
-kind-back Br14 = refl
+kind-back _ = refl
 
 pub kind-same : (one other : Kind) → kind_number one ≡ kind_number other → one ≡ other
 kind-same one other same = sym (kind-back one) ∙ ap kind_at same ∙ kind-back other

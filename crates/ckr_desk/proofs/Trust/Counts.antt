@@ -24,9 +24,9 @@ use Rattle.ckr_volumes.specs.Header.{IsHeader}
 use Rattle.ckr_desk_memory.specs.Replay.{deck_of}
 use Rattle.ckr_desk_refines.proofs.Counts.Bytes.{deck-long, event-adds}
 use Rattle.ckr_desk_refines.proofs.Counts.Events.{sound-few}
-use Rattle.ckr_desk_refines.proofs.Counts.Runs.{KeepCards, KeepsCards, sound-cards, sound-runs}
+use Rattle.ckr_desk_refines.proofs.Counts.Runs.{sound-cards, sound-runs}
 use Rattle.ckr_desk_refines.proofs.Counts.Sets.{AreFew}
-use Rattle.ckr_desk_refines.specs.Counts.{HasRewrites, added_by, added_by_all, decks_in, decks_of}
+use Rattle.ckr_desk_refines.specs.Counts.{HasRewrites, KeepCards, KeepsCards, added_by, added_by_all, decks_in, decks_of}
 use Rattle.ckr_desk_store.specs.OpenImages.{event_records}
 use Rattle.ckr_desk.specs.Soundness.{IsTrusted, decked_by, events_in, office_on}
 use Rattle.ckr_desk.specs.State.{DeskView}

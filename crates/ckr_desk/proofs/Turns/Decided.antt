@@ -69,9 +69,4 @@ not-ask _ not = refl
 
 pub decided-same : (answer : Answer) (plan : Plan) → is_ask plan ≡ false → decide answer plan ≡ plan
 decided-same answer (Ask inquiry) quiet = absurd (true≢false quiet)
-decided-same answer (Rest reply) quiet = refl
-decided-same answer (Tell reply event) quiet = refl
-decided-same answer (Work job) quiet = refl
-decided-same answer (Pass job reply) quiet = refl
-decided-same answer (Take job) quiet = refl
-decided-same answer (Wait job code) quiet = refl
+decided-same answer _ quiet = refl

@@ -53,25 +53,15 @@ leaves-so failed (Ended job ending) its = tt
 leaves-so failed _ its = absurd (false≢true its)
 
 pub unit-leaves : (failed : List FailedRun) (plan : Plan) → IsUnitPlan plan → PlanLeaves failed plan
-unit-leaves failed (Rest reply) shape = tt
 unit-leaves failed (Tell reply event) shape = leaves-so failed event shape
-unit-leaves failed (Work job) shape = tt
-unit-leaves failed (Pass job reply) shape = tt
-unit-leaves failed (Take job) shape = tt
-unit-leaves failed (Ask inquiry) shape = tt
-unit-leaves failed (Wait job code) shape = tt
+unit-leaves failed _ shape = tt
 
 -- what the unit's step commits, it commits behind the unit with steps of other runs beside it
 pub commits-beside : (tables : TablesModel) (run : ℕ) (plan : Plan) (seen moved : RunningStepView) (others : List RunningStepView) → PlanIsOf run plan → moved.run ≡ seen.run → moved.sets.sets ≡ seen.sets.sets
     → AllByRecursion (IsOfOther run) others → PlanCommits tables (seen ∷ []) plan → PlanCommits tables (moved ∷ others) plan
-commits-beside tables run (Rest reply) seen moved others of_run same sets apart commits = tt
 commits-beside tables run (Tell reply event) seen moved others of_run same sets apart commits =
     others-commit tables event seen moved others same sets (subst (λ n. AllByRecursion (IsOfOther n) others) (sym of_run) apart) commits
-commits-beside tables run (Work job) seen moved others of_run same sets apart commits = tt
-commits-beside tables run (Pass job reply) seen moved others of_run same sets apart commits = tt
-commits-beside tables run (Take job) seen moved others of_run same sets apart commits = tt
-commits-beside tables run (Ask inquiry) seen moved others of_run same sets apart commits = tt
-commits-beside tables run (Wait job code) seen moved others of_run same sets apart commits = tt
+commits-beside tables run _ seen moved others of_run same sets apart commits = tt
 
 module _ {D : Type 0} (old mid : DeskView D) (tables : mid.jobs.tables ≡ old.jobs.tables) (points : mid.jobs.points ≡ old.jobs.points) (place : mid.jobs.running_room ≡ old.jobs.running_room) (book : room_of mid.store.book ≡ room_of old.store.book) where
   still-prepared : (event : Event) → is_unit_event event ≡ true → (prepared : Prepared) → IsPrepared old.jobs event None prepared → IsPrepared mid.jobs event None prepared

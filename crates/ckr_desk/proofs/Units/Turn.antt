@@ -104,13 +104,8 @@ spelled-in (Wait job code) shape event is = absurd (some-not-none event (sym is)
 -- ---- a unit that tells no event leaves what the events have brought about
 
 plan-office : (plan : Plan) (desk : DeskModel) → (done_by plan desk).event ≡ None → (done_by plan desk).desk.office ≡ desk.office
-plan-office (Rest reply) desk none = refl
 plan-office (Tell reply event) desk none = absurd (some-not-none event none)
-plan-office (Work job) desk none = refl
-plan-office (Pass job reply) desk none = refl
-plan-office (Take job) desk none = refl
-plan-office (Ask inquiry) desk none = refl
-plan-office (Wait job code) desk none = refl
+plan-office _ desk none = refl
 
 either-office : {X : Type 0} (office : Office) (o : Option X) (f : X → TurnDone) (none : TurnDone) → (none.event ≡ None → none.desk.office ≡ office) → ((x : X) → (f x).event ≡ None → (f x).desk.office ≡ office)
     → (option_map_or f o none).event ≡ None → (option_map_or f o none).desk.office ≡ office

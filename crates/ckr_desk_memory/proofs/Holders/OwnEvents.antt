@@ -129,11 +129,7 @@ own-committed tables on job lengths own same row owned at found =
 
 in_set : (origin : Origin) (root owner step dd name : Name) → origin_name origin root owner step dd ≡ Some name → set_of_source (source_by origin (Some name)) ≡ Some name
 in_set (InStream cards) root owner step dd name e = absurd (some-not-none name (sym e))
-in_set (NamedOrigin other) root owner step dd name e = refl
-in_set (Temporary other) root owner step dd name e = refl
-in_set Unnamed root owner step dd name e = refl
-in_set Sysout root owner step dd name e = refl
-in_set Dummy root owner step dd name e = refl
+in_set _ root owner step dd name e = refl
 
 -- UPDATE's first input is what it updates
 module _ (run : ℕ) (owned : OwnedStep) (formed : is_formed_step run owned ≡ true) (updates : is_update owned.step.program ≡ true) where

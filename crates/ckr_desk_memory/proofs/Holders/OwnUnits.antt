@@ -163,14 +163,9 @@ module _ (layout : Layout) (tables : TablesModel) (on : RunningStepView) (ahead 
 
 -- it ends no step
 pub told-leaves : (failed : List FailedRun) (plan : Plan) → IsUnitPlan plan → PlanLeaves failed plan
-told-leaves failed (Rest reply) is = tt
 told-leaves failed (Tell reply event) is = by event is
   where
     by : (event : Event) → is_unit_event event ≡ true → LeavesLeft event failed
     by (StepEnded job step rc writes lengths) is = absurd (false≢true is)
     by _ is = tt
-told-leaves failed (Work job) is = tt
-told-leaves failed (Pass job reply) is = tt
-told-leaves failed (Take job) is = tt
-told-leaves failed (Ask inquiry) is = tt
-told-leaves failed (Wait job code) is = tt
+told-leaves failed _ is = tt

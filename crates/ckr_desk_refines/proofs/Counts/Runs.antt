@@ -21,7 +21,7 @@ use Rattle.ckr_points.specs.Rows.{RunRow, TablesModel}
 use Rattle.ckr_points.specs.Tables.{queued_run}
 use Rattle.ckr_volumes.specs.declared.layout.Layout.{Layout}
 use Rattle.ckr_desk_refines.proofs.Entries.Legs.{tables-behind}
-use Rattle.ckr_desk_refines.specs.Counts.{decks_in, decks_of}
+use Rattle.ckr_desk_refines.specs.Counts.{KeepCards, KeepsCards, decks_in, decks_of}
 
 -- the runs are numbered in their order, and there are so many
 record AreMany (many : ℕ) (runs : List RunRow) : Type 0 where
@@ -64,14 +64,6 @@ sound-runs layout events sound =
     (many-from layout events no_office 0 sound (record { numbered = tt; long = refl })).long ∙ (let same : 0 + decks_in events ≡ decks_in events = omega arith in same)
 
 -- ---- the cards of decks
-
--- the event of a deck keeps a card
-abbrev pub KeepsCards : Event → Type 0
-KeepsCards (Submitted job cards) = 0 < length cards
-KeepsCards _ = Unit {0}
-
-abbrev pub KeepCards : List Decked → Type 0
-KeepCards events = AllByRecursion (λ (one : Decked). KeepsCards one.0) events
 
 some-kept : (cards : List ℕ) → not (is_empty cards) ≡ true → 0 < length cards
 some-kept [] some = absurd (false≢true some)

@@ -106,16 +106,11 @@ silent-tells Q inquiry = by inquiry.lodged
     by false = tt
 
 pub answer-tells : (Q : Event → Type 0) (answer : Answer) (plan : Plan) → OfPlan Q plan → OfPlan Q (decide answer plan)
-answer-tells Q answer (Rest reply) of = of
-answer-tells Q answer (Tell reply event) of = of
-answer-tells Q answer (Work job) of = of
-answer-tells Q answer (Pass job reply) of = of
-answer-tells Q answer (Take job) of = of
 answer-tells Q Yes (Ask inquiry) of = of.goes_on
 answer-tells Q No (Ask inquiry) of = of.ends
 answer-tells Q Hold (Ask inquiry) of = of.is_held
 answer-tells Q Silent (Ask inquiry) of = silent-tells Q inquiry
-answer-tells Q answer (Wait job code) of = of
+answer-tells Q answer _ of = of
 
 -- fewer marks than none
 fewer-marked : (failed : List FailedRun) (run : ℕ) (also : FailedRun → Bool) → list_any (λ (one : FailedRun). one.run == run) failed ≡ false → list_any (λ (one : FailedRun). one.run == run && also one) failed ≡ false

@@ -96,11 +96,7 @@ told-stands layout old new before after desk turn answer reply event stands its 
 carried-waits : (answer : Answer) (plan : Plan) (desk : DeskModel) (job : ℕ) (code : Code) → decide answer plan ≡ Wait job code → (carried_out answer plan desk).desk ≡ waiting job code desk
 carried-waits answer (Ask inquiry) desk job code waits = ap (λ (plan : Plan). (done_by plan desk).desk) waits
 carried-waits answer (Wait other its) desk job code waits = ap (λ (plan : Plan). (done_by plan desk).desk) waits
-carried-waits answer (Rest reply) desk job code waits = cc
-carried-waits answer (Tell reply event) desk job code waits = cc
-carried-waits answer (Work run) desk job code waits = cc
-carried-waits answer (Pass run reply) desk job code waits = cc
-carried-waits answer (Take run) desk job code waits = cc
+carried-waits answer _ desk job code waits = cc
 
 pub turn-waits : (layout : Layout) (old new : JobsView) (image : List ℕ) (desk : DeskModel) (turn : Turn) (answer : Answer) (job : ℕ) (code : Code) → StandsForDesk layout old image desk → IsTurnOf desk.layout turn → decide answer (plan_of desk.layout (jobs_of desk) turn) ≡ Wait job code
     → HasWaited job code old new → StandsForDesk layout new image (turn_of desk turn answer).desk

@@ -37,22 +37,12 @@ use Rattle.ckr_desk_refines.proofs.Units.OtherSteps.{same-start}
 use Rattle.ckr_desk_refines.proofs.Units.OwnStep.{own-checked, own-sets}
 
 reply-done : (plan : Plan) (desk : DeskModel) → reply_in plan ≡ (done_by plan desk).reply
-reply-done (Rest reply) desk = refl
 reply-done (Tell reply event) desk = refl
-reply-done (Work job) desk = refl
-reply-done (Pass job reply) desk = refl
-reply-done (Take job) desk = refl
-reply-done (Ask inquiry) desk = refl
-reply-done (Wait job code) desk = refl
+reply-done _ desk = refl
 
 pub event-done : (plan : Plan) (desk : DeskModel) → event_in plan ≡ (done_by plan desk).event
-event-done (Rest reply) desk = refl
 event-done (Tell reply event) desk = refl
-event-done (Work job) desk = refl
-event-done (Pass job reply) desk = refl
-event-done (Take job) desk = refl
-event-done (Ask inquiry) desk = refl
-event-done (Wait job code) desk = refl
+event-done _ desk = refl
 
 -- a turn tells in memory what the desk tells, and asks the operator where the desk asks him
 abbrev pub TellsSo : Answer → ℕ → DeskModel → Plan → Type 0

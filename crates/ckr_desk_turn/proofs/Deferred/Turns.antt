@@ -225,9 +225,9 @@ module _ (desk : DeskModel) (is : IsDesk desk) (turn : Turn) (row : RunRow) (res
       ∙ ap (λ (rule : Rule). Some (DeniedEvent row.number (rule_number rule) denial.name)) (denial-rule (serials desk.layout) row (wanted_of row desk.office.tables restart) desk.office.tables rule judged.judged)
 
 -- a rule on data sets is told of one that isn't fresh
-pub least-told : (desk : DeskModel) (initiator : ℕ) (row : RunRow) (restart : Restart) (rule : Rule) → IsJudgedNext desk initiator row restart (Denied rule) → tells_a_name rule ≡ true
+pub named-told : (desk : DeskModel) (initiator : ℕ) (row : RunRow) (restart : Restart) (rule : Rule) → IsJudgedNext desk initiator row restart (Denied rule) → tells_a_name rule ≡ true
     → let wanted = wanted_of row desk.office.tables restart in let denial = denial_of row wanted desk.office.tables rule in (stale_denial row wanted desk.office.tables ≡ Some denial) × (denial.rule ≡ rule) × (is_some denial.name ≡ true)
-least-told desk initiator row restart rule judged tells =
+named-told desk initiator row restart rule judged tells =
     let wanted : Wanted = wanted_of row desk.office.tables restart in
     let stale : stale_denial row wanted desk.office.tables ≡ Some (denial_of row wanted desk.office.tables rule) = denial-stale (serials desk.layout) row wanted desk.office.tables rule tells judged.judged in
     (stale, denial-rule (serials desk.layout) row wanted desk.office.tables rule judged.judged, denial-named row wanted desk.office.tables (denial_of row wanted desk.office.tables rule) stale)

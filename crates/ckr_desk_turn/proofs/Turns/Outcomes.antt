@@ -40,10 +40,9 @@ use Rattle.ckr_desk_turn.specs.Desk.{DeskModel, TurnDone, done_by, jobs_of, prog
 use Rattle.ckr_desk_turn.specs.Inquiries.{decided}
 use Rattle.ckr_desk_turn.specs.Invariant.{IsDesk, Keeps}
 use Rattle.ckr_desk_turn.specs.NextEvents.{EventComes}
-use Rattle.ckr_desk_turn.specs.Permissions.{BeginsOn}
 use Rattle.ckr_desk_turn.specs.Plans.{plan_of}
 use Rattle.ckr_desk_turn.specs.Taken.{behind_entry, served_by, taken_of}
-use Rattle.ckr_desk_turn.specs.Turns.{AnsweredTurn, IsAnsweredTurnOf, carried_out, desk_after, turn_of}
+use Rattle.ckr_desk_turn.specs.Turns.{AnsweredTurn, BeginsOn, IsAnsweredTurnOf, carried_out, desk_after, turn_of}
 use Rattle.ckr_desk_turn.specs.Units.{StepProgress, UnitEnd, unit_end}
 use Rattle.ckr_desk_turn.proofs.Opening.{has-runs}
 use Rattle.ckr_desk_turn.proofs.Readiness.{desk-kept}
@@ -62,13 +61,8 @@ abbrev pub IsBy : DeskModel → TurnDone → Type 0
 IsBy desk done = done.desk.office ≡ office_by done.event desk.office
 
 done-by : (plan : Plan) (desk : DeskModel) → IsBy desk (done_by plan desk)
-done-by (Rest reply) desk = refl
 done-by (Tell reply event) desk = refl
-done-by (Work job) desk = refl
-done-by (Pass job reply) desk = refl
-done-by (Take job) desk = refl
-done-by (Ask inquiry) desk = refl
-done-by (Wait job code) desk = refl
+done-by _ desk = refl
 
 unit-by : (answer : Answer) (row : RunRow) (end : UnitEnd) (desk : DeskModel) → IsBy desk (unit_done answer row end desk)
 unit-by answer row end desk = done-by _ (with_progress row.number end.progress desk)

@@ -24,13 +24,8 @@ use Rattle.ckr_desk_turn.proofs.Turns.Initiator.{turn-keeps}
 -- ---- the layout stays
 
 done-layout : (plan : Plan) (desk : DeskModel) → (done_by plan desk).desk.layout ≡ desk.layout
-done-layout (Rest reply) desk = refl
 done-layout (Tell reply event) desk = refl
-done-layout (Work job) desk = refl
-done-layout (Pass job reply) desk = refl
-done-layout (Take job) desk = refl
-done-layout (Ask inquiry) desk = refl
-done-layout (Wait job code) desk = refl
+done-layout _ desk = refl
 
 unit-layout : (answer : Answer) (row : RunRow) (end : UnitEnd) (desk : DeskModel) → (unit_done answer row end desk).desk.layout ≡ desk.layout
 unit-layout answer row end desk = done-layout _ (with_progress row.number end.progress desk)
