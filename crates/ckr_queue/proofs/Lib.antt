@@ -3,3 +3,8 @@ pub mod Search
 pub mod Places
 pub mod Order
 pub mod Select
+pub mod Lists
+pub mod Counts
+pub mod Pins
+pub mod Mounts
+pub mod UnitChanges
