@@ -13,8 +13,8 @@ use Rattle.ckr_base.proofs.Numbers.{equal-from, equal-itself, equal-true}
 use Rattle.ckr_base.proofs.Options.{option-cases, some-not-none}
 use Rattle.ckr_base.proofs.Sequences.{position-some}
 use Rattle.ckr_queue.specs.declared.units.Need.{Need}
-use Rattle.ckr_queue.specs.Units.{AreAllMounted, AreUnits, FitPinned, GetsUnit, IsMountedBeside, StayMounted, UnitTable, after_mounts, is_among, is_carried, is_free, is_mounted, is_pinned, is_used, may_give_way, mounted_on, need_of, or_else, unit_for_of, units_in, with_volume}
-use Rattle.ckr_queue.proofs.Counts.{any-count, count-any, count-apart, count-at-most, count-cons, count-cover, count-never, count-none, count-set, once, once-at-most, once-cover, position-nowhere}
+use Rattle.ckr_queue.specs.Units.{AreAllMounted, AreUnits, ArePinnedAndFit, IsGivenUnit, IsMountedBeside, AreStillMounted, UnitTable, after_mounts, is_among, is_carried, is_free, is_mounted, is_pinned, is_used, may_give_way, mounted_on, need_of, or_else, unit_for_of, units_in, with_volume}
+use Rattle.ckr_queue.proofs.Counts.{any-count, count-any, count-apart, count-at-most, count-cons, count-cover, count-never, count-none, count-set, one_if, one_if-at-most, one_if-cover, position-nowhere}
 use Rattle.ckr_queue.proofs.Pins.{among-pinned, pinned-among}
 
 -- ---- a volume that is on no unit gets one
@@ -42,19 +42,19 @@ module _ (units : List (Option ℕ)) (uses : List ℕ) (alone : (volume : ℕ) �
       (λ more. or_right _ _ (and_from _ _ unused more))
 
   -- one volume is kept on at most one unit, and on none where it is in use or on no unit
-  kept-once : (volume : ℕ) → count_by (carries_unused uses volume) units ≤ once (unused_on volume)
-  kept-once volume = bool-cases (is_used uses volume)
+  kept-once : (volume : ℕ) → count_by (carries_unused uses volume) units ≤ one_if (unused_on volume)
+  kept-once volume =
+      let few = count-at-most (carries_unused uses volume) (is_carried volume) units (λ unit. one_if-at-most _ _ (and-second (not (is_used uses volume)) (is_carried volume unit))) in
+      bool-cases (is_used uses volume)
       (λ used.
       let never = count-never (carries_unused uses volume) units (λ unit. ap (λ b. not b && is_carried volume unit) used) in
       omega arith)
       (λ unused. bool-cases (list_any (is_carried volume) units)
       (λ on.
-      let few = count-at-most (carries_unused uses volume) (is_carried volume) units (λ unit. once-at-most _ _ (and-second (not (is_used uses volume)) (is_carried volume unit))) in
-      let one : once (unused_on volume) ≡ 1 = ap once (and_from _ _ (ap not unused) on) in
+      let one : one_if (unused_on volume) ≡ 1 = ap one_if (and_from _ _ (ap not unused) on) in
       let most = alone volume in
       omega arith)
       (λ off.
-      let few = count-at-most (carries_unused uses volume) (is_carried volume) units (λ unit. once-at-most _ _ (and-second (not (is_used uses volume)) (is_carried volume unit))) in
       let none = count-none (is_carried volume) units off in
       omega arith))
 
@@ -68,7 +68,7 @@ module _ (units : List (Option ℕ)) (uses : List ℕ) (alone : (volume : ℕ) �
       nothing None = refl
       nothing (Some volume) = bool-cases (is_used uses volume) (λ used. ap (λ b. not b && false) used) (λ unused. ap (λ b. not b && false) unused)
   kept-few (volume ∷ volumes) =
-      let parts = count-cover (carries_unused uses volume) (keeps uses volumes) (keeps uses (volume ∷ volumes)) units (λ unit. once-cover _ _ _ (keeps-parts volume volumes unit)) in
+      let parts = count-cover (carries_unused uses volume) (keeps uses volumes) (keeps uses (volume ∷ volumes)) units (λ unit. one_if-cover _ _ _ (keeps-parts volume volumes unit)) in
       omega (arith, parts, kept-once volume, kept-few volumes, count-cons unused_on volume volumes)
 
   -- a volume that is on no unit is needed and not kept
@@ -79,17 +79,17 @@ module _ (units : List (Option ℕ)) (uses : List ℕ) (alone : (volume : ℕ) �
       let apart = count-apart unused_on (λ other. other == volume) (λ v. not (is_used uses v)) volumes each in
       omega arith
     where
-      each : (other : ℕ) → once (unused_on other) + once (other == volume) ≤ once (not (is_used uses other))
+      each : (other : ℕ) → one_if (unused_on other) + one_if (other == volume) ≤ one_if (not (is_used uses other))
       each other = bool-cases (other == volume)
           (λ same.
           let equal = equal-true other volume same in
-          let needed : once (not (is_used uses other)) ≡ 1 = ap (λ v. once (not (is_used uses v))) equal ∙ ap (λ b. once (not b)) unused in
-          let absent : once (unused_on other) ≡ 0 = ap (λ v. once (unused_on v)) equal ∙ ap (λ b. once (not b && list_any (is_carried volume) units)) unused ∙ ap once off in
-          let one : once (other == volume) ≡ 1 = ap once same in
+          let needed : one_if (not (is_used uses other)) ≡ 1 = ap (λ v. one_if (not (is_used uses v))) equal ∙ ap (λ b. one_if (not b)) unused in
+          let absent : one_if (unused_on other) ≡ 0 = ap (λ v. one_if (unused_on v)) equal ∙ ap (λ b. one_if (not b && list_any (is_carried volume) units)) unused ∙ ap one_if off in
+          let one : one_if (other == volume) ≡ 1 = ap one_if same in
           omega arith)
           (λ differ.
-          let nothing : once (other == volume) ≡ 0 = ap once differ in
-          let few = once-at-most (unused_on other) (not (is_used uses other)) (and-first (not (is_used uses other)) (list_any (is_carried other) units)) in
+          let nothing : one_if (other == volume) ≡ 0 = ap one_if differ in
+          let few = one_if-at-most (unused_on other) (not (is_used uses other)) (and-first (not (is_used uses other)) (list_any (is_carried other) units)) in
           omega arith)
 
   module _ (pins : List Bool) (volumes : List ℕ) (pinned : (volume : ℕ) → is_pinned pins volume ≡ true → is_among volumes volume ≡ true) where
@@ -104,8 +104,8 @@ module _ (units : List (Option ℕ)) (uses : List ℕ) (alone : (volume : ℕ) �
         → position is_none units ≡ None → position (may_give_way uses pins) units ≡ None → ⊥
     some-unit volume among unused off fit no_empty no_way =
         let way = λ (unit : Option ℕ). may_give_way uses pins unit || keeps uses volumes unit in
-        let one = count-cover is_none way (is_free uses) units (λ unit. once-cover _ _ _ (free-parts unit)) in
-        let two = count-cover (may_give_way uses pins) (keeps uses volumes) way units (λ unit. once-cover _ _ _ (λ e. e)) in
+        let one = count-cover is_none way (is_free uses) units (λ unit. one_if-cover _ _ _ (free-parts unit)) in
+        let two = count-cover (may_give_way uses pins) (keeps uses volumes) way units (λ unit. one_if-cover _ _ _ (λ e. e)) in
         omega (arith, one, two, position-nowhere is_none units no_empty, position-nowhere (may_give_way uses pins) units no_way, kept-few volumes, need-more volumes volume among unused off, fit)
 
 -- ---- the unit that is for a volume
@@ -156,6 +156,12 @@ way-apart uses pins (Some carried) other e pinned = bool-cases (carried == other
     (λ same. true-not-false (sym (and-second (not (is_used uses carried)) (not (is_pinned pins carried)) e) ∙ ap not (ap (is_pinned pins) (equal-true carried other same) ∙ pinned)))
     (λ differ. differ)
 
+-- a volume that is on no unit isn't in use
+off-unused : (t : UnitTable) → AreUnits t → (volume : ℕ) → is_mounted t volume ≡ false → is_used t.uses volume ≡ false
+off-unused t units volume off = bool-cases (is_used t.uses volume)
+    (λ used. true-not-false (sym (units.mounted volume used) ∙ off))
+    (λ not_used. not_used)
+
 -- a unit for a volume that is on none
 chosen : (t : UnitTable) (volume unit : ℕ) → is_mounted t volume ≡ false → or_else (position is_none (units_in t)) (position (may_give_way t.uses t.pinned) (units_in t)) ≡ Some unit → IsFor t volume unit
 chosen t volume unit off e =
@@ -186,9 +192,9 @@ module _ (t : UnitTable) (units : AreUnits t) (volume unit : ℕ) (place : IsFor
       let inside = place.inside in
       take-set-lt t.count t.carried unit (Some volume) (omega (arith, length-take t.count t.carried))
 
-  count-later : (other : ℕ) → count_by (is_carried other) (units_in later) + once (is_carried other (get_or (units_in t) unit None)) ≡ count_by (is_carried other) (units_in t) + once (volume == other)
+  count-later : (other : ℕ) → count_by (is_carried other) (units_in later) + one_if (is_carried other (get_or (units_in t) unit None)) ≡ count_by (is_carried other) (units_in t) + one_if (volume == other)
   count-later other =
-      ap (λ us. count_by (is_carried other) us + once (is_carried other (get_or (units_in t) unit None))) seen
+      ap (λ us. count_by (is_carried other) us + one_if (is_carried other (get_or (units_in t) unit None))) seen
       ∙ count-set (is_carried other) (units_in t) unit (Some volume) None place.inside
 
   pub mounted-later : is_mounted later volume ≡ true
@@ -200,29 +206,24 @@ module _ (t : UnitTable) (units : AreUnits t) (volume unit : ℕ) (place : IsFor
 
   pub stays-later : (other : ℕ) → is_carried other (get_or (units_in t) unit None) ≡ false → is_mounted t other ≡ true → is_mounted later other ≡ true
   stays-later other off on =
-      let nothing : once (is_carried other (get_or (units_in t) unit None)) ≡ 0 = ap once off in
+      let nothing : one_if (is_carried other (get_or (units_in t) unit None)) ≡ 0 = ap one_if off in
       any-count (is_carried other) (units_in later) (omega (arith, count-later other, count-any (is_carried other) (units_in t) on))
 
   once-later : (other : ℕ) → count_by (is_carried other) (units_in later) ≤ 1
   once-later other = bool-cases (volume == other)
       (λ same.
-      let one : once (volume == other) ≡ 1 = ap once same in
+      let one : one_if (volume == other) ≡ 1 = ap one_if same in
       let none = count-none (is_carried other) (units_in t) (subst (λ v. list_any (is_carried v) (units_in t) ≡ false) (equal-true volume other same) place.absent) in
       omega (arith, count-later other))
       (λ differ.
-      let nothing : once (volume == other) ≡ 0 = ap once differ in
+      let nothing : one_if (volume == other) ≡ 0 = ap one_if differ in
       omega (arith, count-later other, units.once other))
-
-  pub unused : is_used t.uses volume ≡ false
-  unused = bool-cases (is_used t.uses volume)
-      (λ used. true-not-false (sym (units.mounted volume used) ∙ place.absent))
-      (λ not_used. not_used)
 
   free-later : count_by (is_free t.uses) (units_in later) ≡ count_by (is_free t.uses) (units_in t)
   free-later =
       let counted = count-set (is_free t.uses) (units_in t) unit (Some volume) None place.inside in
-      let old : once (is_free t.uses (get_or (units_in t) unit None)) ≡ 1 = ap once place.free in
-      let new : once (is_free t.uses (Some volume)) ≡ 1 = ap (λ b. once (not b)) unused in
+      let old : one_if (is_free t.uses (get_or (units_in t) unit None)) ≡ 1 = ap one_if place.free in
+      let new : one_if (is_free t.uses (Some volume)) ≡ 1 = ap (λ b. one_if (not b)) (off-unused t units volume place.absent) in
       ap (count_by (is_free t.uses)) seen ∙ omega arith
 
   pub need-later : (volumes : List ℕ) → need_of later volumes ≡ need_of t volumes
@@ -237,7 +238,7 @@ module _ (t : UnitTable) (units : AreUnits t) (volume unit : ℕ) (place : IsFor
 
 -- ---- the pinned volumes
 
-module _ (t : UnitTable) (units : AreUnits t) (volumes : List ℕ) (fit : FitPinned t volumes) (volume : ℕ) (among : is_among volumes volume ≡ true) where
+module _ (t : UnitTable) (units : AreUnits t) (volumes : List ℕ) (fit : ArePinnedAndFit t volumes) (volume : ℕ) (among : is_among volumes volume ≡ true) where
   none-mounted : unit_for_of t volume ≡ None → is_mounted t volume ≡ true
   none-mounted none = bool-cases (is_mounted t volume)
       (λ on. on)
@@ -245,15 +246,10 @@ module _ (t : UnitTable) (units : AreUnits t) (volumes : List ℕ) (fit : FitPin
       let one = position is_none (units_in t) in
       let other = position (may_give_way t.uses t.pinned) (units_in t) in
       or_else-none one other (sym (ap (λ b. cond b None (or_else one other)) off) ∙ none)
-      (λ no_empty no_way. absurd (some-unit (units_in t) t.uses units.once t.pinned volumes pinned volume among (off-unused off) off fit.fit no_empty no_way)))
+      (λ no_empty no_way. absurd (some-unit (units_in t) t.uses units.once t.pinned volumes pinned volume among (off-unused t units volume off) off fit.fit no_empty no_way)))
     where
       pinned : (other : ℕ) → is_pinned t.pinned other ≡ true → is_among volumes other ≡ true
       pinned other e = pinned-among volumes other (subst (λ pins. is_pinned pins other ≡ true) fit.pinned e)
-
-      off-unused : is_mounted t volume ≡ false → is_used t.uses volume ≡ false
-      off-unused off = bool-cases (is_used t.uses volume)
-          (λ used. true-not-false (sym (units.mounted volume used) ∙ off))
-          (λ not_used. not_used)
 
   mounts : (unit : ℕ) → unit_for_of t volume ≡ Some unit → IsMountedBeside volumes volume t (with_volume volume unit t)
   mounts unit e =
@@ -266,8 +262,8 @@ module _ (t : UnitTable) (units : AreUnits t) (volumes : List ℕ) (fit : FitPin
         units = units-later t units volume unit place;
       }
 
-  pub gets-unit : GetsUnit t volumes volume
-  gets-unit = record {
+  pub given-unit : IsGivenUnit t volumes volume
+  given-unit = record {
     none = (none-mounted, λ on. ap (λ b. cond b None (or_else (position is_none (units_in t)) (position (may_give_way t.uses t.pinned) (units_in t)))) on);
     mounts = mounts;
   }
@@ -279,14 +275,14 @@ mounted_on-pinned None volume t = refl
 mounted_on-pinned (Some unit) volume t = refl
 
 module _ (volumes : List ℕ) where
-  mount-one : (t : UnitTable) → AreUnits t → FitPinned t volumes → (volume : ℕ) → is_among volumes volume ≡ true → IsMountedBeside volumes volume t (mounted_on (unit_for_of t volume) volume t)
+  mount-one : (t : UnitTable) → AreUnits t → ArePinnedAndFit t volumes → (volume : ℕ) → is_among volumes volume ≡ true → IsMountedBeside volumes volume t (mounted_on (unit_for_of t volume) volume t)
   mount-one t units fit volume among =
-      let gets = gets-unit t units volumes fit volume among in
+      let gets = given-unit t units volumes fit volume among in
       option-cases (unit_for_of t volume)
       (λ none. subst (λ unit. IsMountedBeside volumes volume t (mounted_on unit volume t)) (sym none) (record { on = gets.none.0 none; stay = λ other is_one on. on; need = refl; units = units }))
       (λ unit some. subst (λ unit. IsMountedBeside volumes volume t (mounted_on unit volume t)) (sym some) (gets.mounts unit some))
 
-  fit-after : (t after : UnitTable) → FitPinned t volumes → after.pinned ≡ t.pinned → need_of after volumes ≡ need_of t volumes → FitPinned after volumes
+  fit-after : (t after : UnitTable) → ArePinnedAndFit t volumes → after.pinned ≡ t.pinned → need_of after volumes ≡ need_of t volumes → ArePinnedAndFit after volumes
   fit-after t after fit pins need = record {
     list = fit.list;
     pinned = pins ∙ fit.pinned;
@@ -295,11 +291,11 @@ module _ (volumes : List ℕ) where
 
   record AreMounted (rest : List ℕ) (now after : UnitTable) : Type 0 where
     all : (volume : ℕ) → is_among rest volume ≡ true → is_mounted after volume ≡ true
-    stay : StayMounted volumes now after
+    stay : AreStillMounted volumes now after
     need : need_of after volumes ≡ need_of now volumes
     units : AreUnits after
 
-  mount-rest : (rest : List ℕ) (t : UnitTable) → AreUnits t → FitPinned t volumes → ((volume : ℕ) → is_among rest volume ≡ true → is_among volumes volume ≡ true) → AreMounted rest t (after_mounts rest t)
+  mount-rest : (rest : List ℕ) (t : UnitTable) → AreUnits t → ArePinnedAndFit t volumes → ((volume : ℕ) → is_among rest volume ≡ true → is_among volumes volume ≡ true) → AreMounted rest t (after_mounts rest t)
   mount-rest [] t units fit part = record { all = λ volume none. false-not-true none; stay = λ volume is_one on. on; need = refl; units = units }
   mount-rest (volume ∷ rest) t units fit part =
       let here = part volume (or_left _ _ (equal-itself volume)) in
@@ -319,7 +315,7 @@ all-among : (p : ℕ → Bool) (volumes : List ℕ) → ((volume : ℕ) → is_a
 all-among p [] each = refl
 all-among p (volume ∷ rest) each = and_from _ _ (each volume (or_left _ _ (equal-itself volume))) (all-among p rest (λ other is_one. each other (or_right (volume == other) _ is_one)))
 
-pub all-mounted : (t : UnitTable) (volumes : List ℕ) → AreUnits t → FitPinned t volumes → AreAllMounted volumes t (after_mounts volumes t)
+pub all-mounted : (t : UnitTable) (volumes : List ℕ) → AreUnits t → ArePinnedAndFit t volumes → AreAllMounted volumes t (after_mounts volumes t)
 all-mounted t volumes units fit =
     let done = mount-rest volumes volumes t units fit (λ volume is_one. is_one) in
     record { all = all-among (is_mounted (after_mounts volumes t)) volumes done.all; need = done.need; units = done.units }

@@ -105,25 +105,25 @@ with_fewer_uses volumes uses = fold (λ counts volume. slice_set counts volume (
 -- ---- what the calls come to
 
 -- these volumes are those that are pinned, and need no more units than are free
-pub record FitPinned (t : UnitTable) (volumes : List ℕ) : Type 0 where
+pub record ArePinnedAndFit (t : UnitTable) (volumes : List ℕ) : Type 0 where
   pub list : IsTrue (is_volume_list volumes)
   pub pinned : t.pinned ≡ pinned_by volumes
   pub fit : (need_of t volumes).need ≤ (need_of t volumes).free
 
 -- none of these volumes that is on a unit here is on none there
-abbrev pub StayMounted : List ℕ → UnitTable → UnitTable → Type 0
-StayMounted volumes now later = (volume : ℕ) → IsTrue (is_among volumes volume) → IsTrue (is_mounted now volume) → IsTrue (is_mounted later volume)
+abbrev pub AreStillMounted : List ℕ → UnitTable → UnitTable → Type 0
+AreStillMounted volumes now later = (volume : ℕ) → IsTrue (is_among volumes volume) → IsTrue (is_mounted now volume) → IsTrue (is_mounted later volume)
 
 -- what mounting a volume of these comes to: it is on a unit, no other one of these has lost its own, and the volumes need as
 -- many units as before and as many are free
 pub record IsMountedBeside (volumes : List ℕ) (volume : ℕ) (now later : UnitTable) : Type 0 where
   pub on : IsTrue (is_mounted later volume)
-  pub stay : StayMounted volumes now later
+  pub stay : AreStillMounted volumes now later
   pub need : need_of later volumes ≡ need_of now volumes
   pub units : AreUnits later
 
 -- a volume of these that is on no unit gets one, and only such a one does; and what comes of mounting it there
-pub record GetsUnit (t : UnitTable) (volumes : List ℕ) (volume : ℕ) : Type 0 where
+pub record IsGivenUnit (t : UnitTable) (volumes : List ℕ) (volume : ℕ) : Type 0 where
   pub none : (unit_for_of t volume ≡ None) ↔ IsTrue (is_mounted t volume)
   pub mounts : (unit : ℕ) → unit_for_of t volume ≡ Some unit → IsMountedBeside volumes volume t (with_volume volume unit t)
 

@@ -1,4 +1,4 @@
-//! The queue of jobs: which job is next. The units of the desk: which volume each carries, and which volumes are in use.
+//! The queue of jobs: which job is next. The units: which volume each carries, and which volumes running steps use.
 #![tactic(auto)]
 
 mod entry;

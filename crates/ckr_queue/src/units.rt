@@ -1,10 +1,14 @@
-//! The units: which volume each carries, and which volumes running steps use.
+//! The units: which volume each carries, and which volumes running steps use. All are empty at first, and a volume stays on its
+//! unit until the unit is wanted: this project's profile, as all of this is.
+//!
+//! A list of volumes has their numbers below 32 in ascending order, each once. It may be empty.
 ghost use Rattle.std.specs.Prelude.{◌≡◌, ◌<◌, ◌≤◌, IfSome, IsTrue, Some, count_by, is_none, length, not, position};
 ghost use Rattle.ckr_queue.specs.Units.{are_below_255, are_mounted, are_used, is_carried, is_free, is_mounted, is_pinned, is_used, is_volume_list, may_give_way, need_of, no_units, pinned_by, unit_for_of, units_in, with_fewer_uses, with_more_uses, with_volume, AreUnits};
 
 use std::marker::Model;
 
-/// At most 16 units, and volumes by their numbers from 0 to 31. A volume stays on its unit until the unit is wanted.
+/// At most 16 units, and volumes by their numbers from 0 to 31. A volume is on at most one unit, and one in use is on a unit. No
+/// call takes memory.
 #[derive(Drop)]
 pub struct Units {
     count: u8,
@@ -32,6 +36,7 @@ pub struct Need {
     pub free: u8,
 }
 
+/// Whether a unit carries the volume.
 fn is_carried(unit: Option<u8>, volume: u8) -> bool
     ensures { result ≡ is_carried volume unit }
 {
@@ -41,6 +46,7 @@ fn is_carried(unit: Option<u8>, volume: u8) -> bool
     }
 }
 
+/// These volumes pinned, and no others.
 fn pinned_by(volumes: &[u8]) -> [bool; 32]
     requires { IsTrue (is_volume_list volumes.now) }
     ensures { result ≡ pinned_by volumes.now }
@@ -52,6 +58,7 @@ fn pinned_by(volumes: &[u8]) -> [bool; 32]
     pinned
 }
 
+/// One more use of each of these volumes.
 fn with_more(mut uses: [u8; 32], volumes: &[u8]) -> [u8; 32]
     requires list { IsTrue (is_volume_list volumes.now) }
     requires room { IsTrue (are_below_255 uses volumes.now) }
@@ -63,6 +70,7 @@ fn with_more(mut uses: [u8; 32], volumes: &[u8]) -> [u8; 32]
     uses
 }
 
+/// One use less of each of these volumes.
 fn with_fewer(mut uses: [u8; 32], volumes: &[u8]) -> [u8; 32]
     requires list { IsTrue (is_volume_list volumes.now) }
     requires used { IsTrue (are_used uses volumes.now) }
@@ -75,7 +83,7 @@ fn with_fewer(mut uses: [u8; 32], volumes: &[u8]) -> [u8; 32]
 }
 
 impl Units {
-    /// So many units, all empty.
+    /// So many units, at most 16, all empty. No volume is in use or pinned.
     pub fn new(count: u8) -> Units
         requires { count ≤ 16 }
         ensures { result ≡ no_units count }
@@ -88,6 +96,7 @@ impl Units {
         }
     }
 
+    /// Whether a running step uses the volume.
     fn is_used(&self, volume: u8) -> bool
         ensures { result ≡ is_used self.now.uses volume }
     {
@@ -97,6 +106,7 @@ impl Units {
         }
     }
 
+    /// Whether the volume is pinned.
     fn is_pinned(&self, volume: u8) -> bool
         ensures { result ≡ is_pinned self.now.pinned volume }
     {
@@ -106,6 +116,7 @@ impl Units {
         }
     }
 
+    /// Whether a unit carries no volume in use.
     fn is_free(&self, unit: Option<u8>) -> bool
         ensures { result ≡ is_free self.now.uses unit }
     {
@@ -115,6 +126,7 @@ impl Units {
         }
     }
 
+    /// Whether a unit carries a volume that is neither in use nor pinned.
     fn may_give_way(&self, unit: Option<u8>) -> bool
         ensures { result ≡ may_give_way self.now.uses self.now.pinned unit }
     {
@@ -147,7 +159,8 @@ impl Units {
             .count()
     }
 
-    /// How many of the volumes no running step uses, and how many units carry no volume in use.
+    /// How many of the volumes no running step uses, and how many units carry no volume in use. A step can have its volumes mounted
+    /// where it needs no more than are free.
     #[tactic(auto, using(crate::proofs::Lists::short_list))]
     pub fn need(&self, volumes: &[u8]) -> Need
         requires { IsTrue (is_volume_list volumes.now) }
@@ -159,6 +172,7 @@ impl Units {
         Need { need, free }
     }
 
+    /// Whether the volume is on a unit.
     fn is_mounted(&self, volume: u8) -> bool
         ensures mounted { result ≡ is_mounted self.now volume }
         ensures units { AreUnits self.now }
@@ -168,6 +182,7 @@ impl Units {
             .any(|unit| is_carried(*unit, volume))
     }
 
+    /// The lowest unit that carries nothing.
     fn first_empty(&self) -> Option<usize>
         ensures place { result ≡ position is_none (units_in self.now) }
         ensures low { IfSome result (λ place. place < 16) }
@@ -177,6 +192,7 @@ impl Units {
             .position(|unit| unit.is_none())
     }
 
+    /// The lowest unit whose volume is neither in use nor pinned.
     fn first_to_give_way(&self) -> Option<usize>
         ensures place { result ≡ position (may_give_way self.now.uses self.now.pinned) (units_in self.now) }
         ensures low { IfSome result (λ place. place < 16) }
@@ -187,7 +203,8 @@ impl Units {
     }
 
     /// The unit on which a volume is to be mounted: the lowest empty one, else the lowest whose volume is neither in use nor
-    /// pinned. None where the volume is on a unit, or where there is no such unit.
+    /// pinned. None where the volume is on a unit, or where there is no such unit. There is one for each of the volumes that are
+    /// pinned, where they need no more units than are free (`pinned_volume_gets_unit`).
     pub fn unit_for(&self, volume: u8) -> Option<u8>
         ensures unit { result ≡ unit_for_of self.now volume }
         ensures units { AreUnits self.now }
@@ -204,7 +221,7 @@ impl Units {
         }
     }
 
-    /// The volumes that aren't to give way, in place of those that were pinned before.
+    /// The volumes that aren't to give way, in place of those that were pinned before: those of the step whose volumes are mounted.
     pub fn pin(&mut self, volumes: &[u8])
         requires { IsTrue (is_volume_list volumes.now) }
         ensures { self.new ≡ record self.old { pinned = pinned_by volumes.now } }
@@ -213,7 +230,7 @@ impl Units {
         self.pinned = pinned;
     }
 
-    /// The unit carries the volume from now on.
+    /// The unit carries the volume from now on, in place of what it carried. It is the one that `unit_for` gives for the volume.
     pub fn mount(&mut self, volume: u8, unit: u8)
         requires { unit_for_of self.old volume ≡ Some unit }
         ensures { self.new ≡ with_volume volume unit self.old }
@@ -221,7 +238,7 @@ impl Units {
         self.carried[unit as usize] = Some(volume);
     }
 
-    /// A step begins to use the volumes.
+    /// A step begins to use the volumes. All are on a unit, and none has 255 uses.
     pub fn begin_use(&mut self, volumes: &[u8])
         requires list { IsTrue (is_volume_list volumes.now) }
         requires mounted { IsTrue (are_mounted self.old volumes.now) }
@@ -232,7 +249,7 @@ impl Units {
         self.uses = uses;
     }
 
-    /// A step ends its use of the volumes.
+    /// A step ends its use of the volumes. All are in use. They stay on their units.
     pub fn end_use(&mut self, volumes: &[u8])
         requires list { IsTrue (is_volume_list volumes.now) }
         requires used { IsTrue (are_used self.old.uses volumes.now) }
