@@ -1,0 +1,5 @@
+pub mod Answers
+pub mod Line
+pub mod Matches
+pub mod Summaries
+pub mod Words
