@@ -7,14 +7,14 @@ pub struct Failure<'a> {
     pub how: &'static str,
 }
 
-/// What a status of the program says of the disk at this path, whose file was opened or not. None at 0 and 8, where the source was read to
-/// its end.
+/// What a status of the program says of the disk at this path, whose file was opened or not. None at 0 and 8, at which the command
+/// came to its end, or refused what it was given.
 pub fn failure_at(status: u8, path: &str, is_open: bool) -> Option<Failure<'_>> {
     let (of, how) = match status {
         0 | 8 => return None,
         1 => (
             "usage",
-            "batch_desk format DISK, or batch_desk run DISK [--reply T]",
+            "batch_desk format DISK, batch_desk run DISK [--reply T], or batch_desk make N DISK",
         ),
         2 => (path, "isn't a formatted disk, or what it holds is damaged"),
         3 => (path, "the book has no room for what comes next"),

@@ -18,10 +18,21 @@ fn disk_path(words: &[String]) -> Option<&str> {
     Some(words.get(place)?.as_str())
 }
 
-/// The operators that the words name. None where the words are no run, and where there is no memory for them: nobody is in office then.
+/// One operator, who says yes to everything. Nobody where there is no memory for him.
+fn standing(alloc: Global) -> Scripts {
+    let mut operators = Scripts::new(alloc);
+    match operators.push(Script::Standing) {
+        Ok(()) => operators,
+        Err(_) => Scripts::new(alloc),
+    }
+}
+
+/// The operators that the words name, or of a stream that is made the one who says yes to everything. None where the words are neither, and where there is
+/// no memory for them: nobody is in office then.
 fn named_operators(alloc: Global, words: &[String]) -> Scripts {
     match read_words(alloc, words) {
         Ok(Command::Run { operators }) => operators,
+        Ok(Command::Make { .. }) => standing(alloc),
         Ok(Command::Format) | Err(_) => Scripts::new(alloc),
     }
 }

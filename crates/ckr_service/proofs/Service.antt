@@ -5,4 +5,5 @@ pub mod Halts
 pub mod Order
 pub mod Staff
 pub mod Tellings
+pub mod Tallies
 pub mod Turns

@@ -4,3 +4,4 @@ pub mod End
 pub mod Steps
 pub mod Pieces
 pub mod Texts
+pub mod Behind

@@ -1,5 +1,5 @@
 -- How a call ends.
-use Rattle.std.specs.Prelude.{◌≡◌, ◌≤◌, ℕ, Bool, true, false, List, length, Option, Result, Ok, Err}
+use Rattle.std.specs.Prelude.{◌≡◌, ◌≤◌, ℕ, ◌==◌, ◌||◌, Bool, true, false, List, length, Option, Result, Ok, Err}
 use Rattle.std.specs.Io.KnownBytes.{Consumes, Keeps}
 use Rattle.ckr_console.specs.Answering.{Answering}
 use Rattle.ckr_outside.specs.Faults.{Rose}
@@ -37,6 +37,10 @@ serving_status (Err Stops.Sink) = 5
 serving_status (Err Stops.Disk) = 6
 serving_status (Err Stops.Memory) = 7
 serving_status (Err Stops.Limit) = 9
+
+-- the stream was served to its end
+abbrev pub is_whole : ℕ → Bool
+is_whole status = status == 0 || status == 8
 
 abbrev pub status_of : RunEnd → ℕ
 status_of (NotOpened error) = opening_status error

@@ -5,7 +5,10 @@ use Rattle.ckr_outside.specs.Faults.{Rose}
 use Rattle.ckr_service.specs.declared.stop.Stop.{Stop}
 use Rattle.ckr_service.specs.declared.stop.Stop.TheVariants as Stops
 use Rattle.ckr_service.specs.declared.flow.Flow.{Flow}
-use Rattle.ckr_service.specs.Calls.{all_fit}
+use Rattle.ckr_service.specs.declared.counts.Counts.{Counts}
+use Rattle.ckr_service.specs.Calls.{after_all, all_fit, calls}
+use Rattle.ckr_service.specs.Counts.{counts_behind}
+use Rattle.ckr_service.specs.Tallies.{with_answers}
 use Rattle.ckr_service.specs.Events.{events_told}
 use Rattle.ckr_service.specs.Stops.{Comes}
 use Rattle.ckr_service.specs.Service.{View, StopsWithin, Caused}
@@ -29,6 +32,22 @@ pub record IsServed (trusted : Type 0) (each : List (List ℕ) → Type 0) (has 
   pub few : length all ≤ 16_777_216
   pub answered : trusted → IsAnswered state refused all old new
   pub came : trusted → each (events_told state (requests_of all)) × has (λ these. these ≡ events_told state (requests_of all))
+
+-- The stream was read to its end, and from one view to the other it was served: where the disk is trusted, the desk stands behind all of its requests,
+-- and the replies to them are counted.
+pub record IsBehind (trusted : Type 0) (first last : View) (left rest : Option (List ℕ)) : Type 0 where
+  pub all : List ℕ
+  pub given : Consumes left rest all
+  pub end : IsAtEnd rest
+  pub state : trusted → last.state ≡ after_all first.state (requests_of all)
+  pub tally : trusted → last.tally ≡ with_answers first.tally (calls first.state (requests_of all))
+
+-- The stream was read to its end, and this is what it came to where the disk is trusted.
+pub record IsCounted (trusted : Type 0) (state : StaffedDesk) (counts : Counts) (left rest : Option (List ℕ)) : Type 0 where
+  pub all : List ℕ
+  pub given : Consumes left rest all
+  pub end : IsAtEnd rest
+  pub counted : trusted → counts ≡ counts_behind state (requests_of all)
 
 -- how often the source, the sink and the disk had failed, before and after
 pub record Faults : Type 0 where

@@ -6,10 +6,11 @@ use Rattle.std.specs.Io.KnownBytes.{Appends}
 use Rattle.ckr_cards.specs.Session.{Handed, first_session, handed_by, session_behind, session_behind_all, handed_with, handed_within}
 use Rattle.ckr_service.specs.declared.flow.Flow.{Flow}
 use Rattle.ckr_service.specs.declared.stop.Stop.{Stop}
-use Rattle.ckr_service.specs.Calls.{all_fit}
+use Rattle.ckr_service.specs.Calls.{after_all, all_fit, calls}
 use Rattle.ckr_service.specs.Events.{events_told}
 use Rattle.ckr_service.specs.Service.{View, Serves, StopsWithin, seen}
 use Rattle.ckr_service.specs.Sessions.{standing_of, HasWholeCards}
+use Rattle.ckr_service.specs.Tallies.{no_tally, with_answers}
 use Rattle.ckr_service.specs.Stream.{is_line_end, requests_of, text_of, has_refusal}
 
 -- the lines of bytes that no line's end stands in
@@ -21,6 +22,7 @@ module _ {D O : Type 0} where
   pub record IsBegun (f : Flow D O) : Type 0 where
     pub standing : standing_of f.session ≡ first_session
     pub refused : f.session.clerk.refused ≡ false
+    pub tally : f.session.clerk.tally ≡ no_tally
     pub partial : f.partial.items ≡ []
     pub whole : HasWholeCards f.session
 
@@ -70,11 +72,12 @@ module _ {D O : Type 0} (content : D → List ℕ) where
   Breaks stop before now f piece old new came kept = (first : View) (taken : List ℕ) (start : Option (List ℕ)) → (p : StreamProgress first taken f start old)
       → (rest : List ℕ) → StopsWithin stop before now first.state (requests_of (taken ++ piece ++ rest)) start new (told_so_far p ++ came) (told_so_far p ++ kept)
 
-  -- the stream ends here: all of its text is written, its events came, and it is known whether a line or a deck was refused
+  -- the stream ends here: all of its text is written, its events came, it is known whether a line or a deck was refused, and its replies are counted
   abbrev pub Finishes : Flow D O → View → Bool → Option (List ℕ) → Option (List ℕ) → Type 0
   Finishes f end refused old new = (first : View) (all : List ℕ) (start : Option (List ℕ)) → first.refused ≡ false → StreamProgress first all f start old
       → (all_fit first.state (requests_of all) ≡ true) × Appends start new (text_of first.state all) × (refused ≡ has_refusal first.state all)
       × (end.events ≡ first.events ++ events_told first.state (requests_of all))
+      × (end.state ≡ after_all first.state (requests_of all)) × (end.tally ≡ with_answers first.tally (calls first.state (requests_of all)))
 
   -- the stream ends here, and the serving stops within its last requests
   abbrev pub FinishBreaks : Stop → ℕ → ℕ → Flow D O → Option (List ℕ) → Option (List ℕ) → List (List ℕ) → List (List ℕ) → Type 0

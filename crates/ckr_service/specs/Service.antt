@@ -14,10 +14,12 @@ use Rattle.ckr_service.specs.declared.stop.Halt.{Halt}
 use Rattle.ckr_service.specs.declared.stop.Halt.TheVariants as Halts
 use Rattle.ckr_service.specs.declared.stop.Stop.{Stop}
 use Rattle.ckr_service.specs.declared.stop.Stop.TheVariants as Stops
+use Rattle.ckr_service.specs.declared.tally.Tally.{Tally}
 use Rattle.ckr_service.specs.Calls.{calls, after_all, all_fit, replies_of, is_refusal, broken_off}
 use Rattle.ckr_service.specs.Events.{events_told, events_before, event_at}
 use Rattle.ckr_service.specs.Lines.{HaltsTold, Telling, TellsSo}
 use Rattle.ckr_service.specs.Staff.{AttendedDesk, RosterView, StaffedDesk}
+use Rattle.ckr_service.specs.Tallies.{with_answers}
 use Rattle.ckr_service.specs.Texts.{answer_text}
 
 -- the desk with its operator in office
@@ -31,16 +33,18 @@ staffed_by content desk roster = record { attended = attended_of content desk; r
 abbrev pub staffed_of : {D O : Type 0} → (D → List ℕ) → Clerk D O → StaffedDesk
 staffed_of content clerk = staffed_by content clerk.desk clerk.roster
 
--- the desk between two calls, whether a line or a deck was refused, and the events on the disk
+-- the desk between two calls, whether a line or a deck was refused, what is counted of the replies, and the events on the disk
 pub record View : Type 0 where
   pub state : StaffedDesk
   pub refused : Bool
+  pub tally : Tally
   pub events : List (List ℕ)
 
 abbrev pub seen : {D O : Type 0} → (D → List ℕ) → Clerk D O → View
 seen content clerk = record {
   state = staffed_of content clerk;
   refused = clerk.refused;
+  tally = clerk.tally;
   events = event_records (layout_of clerk.desk) (content (disk_of clerk.desk));
 }
 
@@ -53,6 +57,7 @@ pub record Serves (old new : View) (requests : List Handed) (before now : List �
   pub fits : all_fit old.state requests ≡ true
   pub state : new.state ≡ after_all old.state requests
   pub refused : new.refused ≡ (old.refused || list_any is_refusal (calls old.state requests))
+  pub tally : new.tally ≡ with_answers old.tally (calls old.state requests)
   pub events : new.events ≡ old.events ++ events_told old.state requests
   pub text : now ≡ before ++ text_to old.state requests
 

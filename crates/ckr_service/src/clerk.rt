@@ -14,6 +14,7 @@ ghost use Rattle.ckr_service.specs.Texts.{answer_text};
 ghost use Rattle.ckr_service.specs.Lines.{telling};
 ghost use Rattle.ckr_service.specs.Service.{ChangeHalt, HaltsSo, HaltsTelling, HaltCause, ListHalt, Serves, ServesTelling, seen, staffed_of};
 ghost use Rattle.ckr_service.specs.Staff.{shifted, with_call};
+ghost use Rattle.ckr_service.specs.Tallies.{no_tally};
 
 use crate::lines::Lines;
 use crate::listing_lines::{jobs, sets};
@@ -21,6 +22,7 @@ use crate::orders::{JobChange, Order, read_order};
 use crate::report::{accepted, changed, deck_refused, line_refused, listed, shifted};
 use crate::roster::Roster;
 use crate::stop::Halt;
+use crate::tally::Tally;
 use crate::text::Text;
 use crate::turns::turned;
 use ckr_base::{DsName, NoMemory, Rec};
@@ -29,13 +31,14 @@ use ckr_desk::{Desk, DeskError, Run, Submitted};
 use ckr_outside::{Disk, Sink};
 use std::alloc::Global;
 
-/// The desk, the operators who take office later, and whether a line or a deck was refused.
+/// The desk, the operators who take office later, whether a line or a deck was refused, and what is counted of the replies.
 #[derive(Drop)]
 pub struct Clerk<D: Disk, O: Operator> {
     pub alloc: Global,
     pub desk: Desk<D, O>,
     pub roster: Roster<O>,
     pub refused: bool,
+    pub tally: Tally,
 }
 
 /// The name of the job of a number.
@@ -103,12 +106,14 @@ impl<D: Disk, O: Operator> Clerk<D, O> {
         ensures desk { result.desk ≡ desk }
         ensures roster { result.roster ≡ roster }
         ensures refused { result.refused ≡ false }
+        ensures tally { result.tally ≡ no_tally }
     {
         Clerk {
             alloc,
             desk,
             roster,
             refused: false,
+            tally: Tally::new(),
         }
     }
 
@@ -158,6 +163,7 @@ impl<D: Disk, O: Operator> Clerk<D, O> {
         ensures desk { self.new.desk ≡ self.old.desk }
         ensures roster { self.new.roster ≡ self.old.roster }
         ensures refused { self.new.refused ≡ true }
+        ensures tally { self.new.tally ≡ self.old.tally }
         ensures text { OnOk result (out.new ≡ out.old ++ answer_text (DeckRefused number card)) }
         ensures halt { IfErr result (λ halt. halt ≡ Halt.Memory) }
     {
@@ -193,7 +199,14 @@ impl<D: Disk, O: Operator> Clerk<D, O> {
     {
         let _layout = self.desk.layout();
         match read_order(self.desk.layout().initiators, text) {
-            Order::Turns { turn, count } => turned(&mut self.desk, turn, count, lines, sink),
+            Order::Turns { turn, count } => turned(
+                &mut self.desk,
+                turn,
+                count,
+                &mut self.tally,
+                lines,
+                sink,
+            ),
             Order::ListOf(name) => self.list(number, &name, &mut lines.text),
             Order::Sets => self.list_sets(&mut lines.text),
             Order::Jobs => self.list_jobs(&mut lines.text),
@@ -207,6 +220,7 @@ impl<D: Disk, O: Operator> Clerk<D, O> {
         ensures desk { self.new.desk ≡ self.old.desk }
         ensures roster { self.new.roster ≡ self.old.roster }
         ensures refused { self.new.refused ≡ true }
+        ensures tally { self.new.tally ≡ self.old.tally }
         ensures text { OnOk result (out.new ≡ out.old ++ answer_text (LineRefused number)) }
         ensures halt { IfErr result (λ halt. halt ≡ Halt.Memory) }
     {
@@ -256,6 +270,7 @@ impl<D: Disk, O: Operator> Clerk<D, O> {
         ensures text { OnOk result (out.new ≡ out.old ++ answer_text (change_answer change number job (may_change change (tables_in_memory self.old.desk) job))) }
         ensures events { IsTrusted D.told D.content D.may_leave self.old.desk → OnOk result (Has D.content D.moment D.left_since D.size self.old.desk (disk_of self.new.desk) (spelled (event_in (call_for change (tables_in_memory self.old.desk) job)))) }
         ensures layout { OnOk result (layout_of self.new.desk ≡ layout_of self.old.desk) }
+        ensures tally { self.new.tally ≡ self.old.tally }
         ensures trusted { OnOk result (IsTrusted D.told D.content D.may_leave self.old.desk → IsTrusted D.told D.content D.may_leave self.new.desk) }
         ensures goes { IsTrusted D.told D.content D.may_leave self.old.desk → OnOk result (Goes D.content D.moment D.left_since D.size self.old.desk self.new.desk) }
         ensures is_open { OnOk result (IsOpen self.new.desk) }
@@ -286,6 +301,7 @@ impl<D: Disk, O: Operator> Clerk<D, O> {
         ensures refused { OnOk result (self.new.refused ≡ (self.old.refused || is_refusal (shift_answer number self.old.roster.place self.old.roster.later))) }
         ensures text { OnOk result (out.new ≡ out.old ++ answer_text (shift_answer number self.old.roster.place self.old.roster.later)) }
         ensures desk { self.new.desk ≡ record self.old.desk { operator = operator_of self.new.desk } }
+        ensures tally { self.new.tally ≡ self.old.tally }
         ensures halt { IfErr result (λ halt. halt ≡ Halt.Memory) }
     {
         let Some(operator) = self.roster.next() else {
@@ -305,6 +321,7 @@ impl<D: Disk, O: Operator> Clerk<D, O> {
         ensures text { IsTrusted D.told D.content D.may_leave self.old.desk → OnOk result (out.new ≡ out.old ++ answer_text (list_answer number (records_of (state_of D.content self.old.desk).desk name.now))) }
         ensures events { IsTrusted D.told D.content D.may_leave self.old.desk → OnOk result (Has D.content D.moment D.left_since D.size self.old.desk (disk_of self.new.desk) []) }
         ensures layout { OnOk result (layout_of self.new.desk ≡ layout_of self.old.desk) }
+        ensures tally { self.new.tally ≡ self.old.tally }
         ensures trusted { OnOk result (IsTrusted D.told D.content D.may_leave self.old.desk → IsTrusted D.told D.content D.may_leave self.new.desk) }
         ensures goes { IsTrusted D.told D.content D.may_leave self.old.desk → OnOk result (Goes D.content D.moment D.left_since D.size self.old.desk self.new.desk) }
         ensures is_open { OnOk result (IsOpen self.new.desk) }

@@ -7,6 +7,7 @@ ghost use Rattle.ckr_service.specs.Stops.{Goes, Stopped};
 ghost use Rattle.ckr_desk.specs.State.{IsOpen, disk_of};
 ghost use Rattle.ckr_service.specs.Lines.{telling};
 ghost use Rattle.ckr_service.specs.Service.{HaltsSo, HaltsTelling, HaltCause, Serves, ServesTelling, seen, staffed_of};
+ghost use Rattle.ckr_service.specs.Tallies.{no_tally};
 ghost use Rattle.ckr_service.specs.Sessions.{standing_of, HasWholeCards, cards_left, cards_with};
 
 use crate::clerk::Clerk;
@@ -139,6 +140,7 @@ impl<D: Disk, O: Operator> Session<D, O> {
         ensures desk { result.clerk.desk ≡ desk }
         ensures roster { result.clerk.roster ≡ roster }
         ensures refused { result.clerk.refused ≡ false }
+        ensures tally { result.clerk.tally ≡ no_tally }
         ensures whole { HasWholeCards result }
     {
         Session {

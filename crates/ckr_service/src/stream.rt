@@ -1,5 +1,5 @@
 //! The whole stream, from the source to the sink.
-ghost use Rattle.std.specs.Prelude.{◌≡◌, ◌<◌, ◌≤◌, ◌+◌, ◌*◌, ◌^◌, OnOk, OnErr, IfOk, IfErr, length, take};
+ghost use Rattle.std.specs.Prelude.{◌≡◌, ◌<◌, ◌≤◌, ◌+◌, ◌*◌, ◌^◌, OnOk, OnErr, IfOk, IfErr, IfSome, length, take};
 ghost use Rattle.std.specs.Io.KnownBytes.{Consumes, Keeps, IsAtEnd};
 ghost use Rattle.ckr_outside.specs.Faults.{Rose};
 ghost use Rattle.ckr_desk.specs.Soundness.{IsTrusted};
@@ -8,8 +8,9 @@ ghost use Rattle.ckr_desk.specs.State.{IsOpen, disk_of};
 ghost use Rattle.ckr_service.specs.Flows.{IsBegun};
 ghost use Rattle.ckr_service.specs.Service.{seen, staffed_by, staffed_of};
 ghost use Rattle.ckr_service.specs.Sessions.{HasWholeCards};
-ghost use Rattle.ckr_service.specs.Feeds.{Serving, FedAll, IsStopped, faults_of};
+ghost use Rattle.ckr_service.specs.Feeds.{Serving, FedAll, IsBehind, IsCounted, IsStopped, faults_of};
 
+use crate::counts::{Counts, counts_of};
 use crate::flow::Flow;
 use crate::roster::Roster;
 use crate::stop::Stop;
@@ -74,9 +75,11 @@ fn feed_all<S: Source, K: Sink, D: Disk, O: Operator>(
     }
 }
 
-/// The end of a stream: whether a line or a deck was refused, or why it wasn't served to its end; and the disk.
+/// The end of a stream: whether a line or a deck was refused, or why it wasn't served to its end; what it came to by then, or None where the data sets
+/// aren't counted by a `u32`; and the disk.
 pub struct Served<D: Disk> {
     pub outcome: Result<bool, Stop>,
+    pub counts: Option<Counts>,
     pub disk: D,
 }
 
@@ -92,6 +95,7 @@ pub fn serve<S: Source, K: Sink, D: Disk, O: Operator>(
     ensures served { Serving (IsTrusted D.told D.content D.may_leave desk)
         (KeepsTo D.content D.moment D.left_since D.size desk result.disk) (HasSuch D.content D.moment D.left_since D.size desk result.disk) (staffed_by D.content desk roster) result.outcome
         (faults_of (S.faults source.old) (S.faults source.new) (K.faults sink.old) (K.faults sink.new) (D.faults (disk_of desk)) (D.faults result.disk)) (S.left source.old) (S.left source.new) (K.written sink.old) (K.written sink.new) }
+    ensures counted { OnOk result.outcome (IfSome result.counts (λ counts. IsCounted (IsTrusted D.told D.content D.may_leave desk) (staffed_by D.content desk roster) counts (S.left source.old) (S.left source.new))) }
     ensures source_later { S.faults source.old ≤ S.faults source.new }
     ensures sink_later { K.faults sink.old ≤ K.faults sink.new }
     ensures disk_later { D.faults (disk_of desk) ≤ D.faults result.disk }
@@ -100,8 +104,10 @@ pub fn serve<S: Source, K: Sink, D: Disk, O: Operator>(
     let mut flow = Flow::new(alloc, desk, roster);
     let outcome = serve_on(&mut flow, source, sink);
     let Flow { session, .. } = flow;
+    let counts = counts_of(session.clerk.tally, &session.clerk.desk);
     Served {
         outcome,
+        counts,
         disk: session.close(),
     }
 }
@@ -117,6 +123,8 @@ fn serve_on<S: Source, K: Sink, D: Disk, O: Operator>(
     ensures served { Serving (IsTrusted D.told D.content D.may_leave flow.old.session.clerk.desk)
         (KeepsTo D.content D.moment D.left_since D.size flow.old.session.clerk.desk (disk_of flow.new.session.clerk.desk)) (HasSuch D.content D.moment D.left_since D.size flow.old.session.clerk.desk (disk_of flow.new.session.clerk.desk)) (staffed_of D.content flow.old.session.clerk) result
         (faults_of (S.faults source.old) (S.faults source.new) (K.faults sink.old) (K.faults sink.new) (D.faults (disk_of flow.old.session.clerk.desk)) (D.faults (disk_of flow.new.session.clerk.desk))) (S.left source.old) (S.left source.new) (K.written sink.old) (K.written sink.new) }
+    ensures behind { OnOk result (IsBehind (IsTrusted D.told D.content D.may_leave flow.old.session.clerk.desk) (seen D.content flow.old.session.clerk) (seen D.content flow.new.session.clerk) (S.left source.old) (S.left source.new)) }
+    ensures trusted { OnOk result (IsTrusted D.told D.content D.may_leave flow.old.session.clerk.desk → IsTrusted D.told D.content D.may_leave flow.new.session.clerk.desk) }
     ensures source_later { S.faults source.old ≤ S.faults source.new }
     ensures sink_later { K.faults sink.old ≤ K.faults sink.new }
     ensures disk_later { D.faults (disk_of flow.old.session.clerk.desk) ≤ D.faults (disk_of flow.new.session.clerk.desk) }

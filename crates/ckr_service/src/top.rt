@@ -1,7 +1,8 @@
 //! The top call.
-ghost use Rattle.std.specs.Prelude.{◌≡◌, ◌≤◌, List, None, Some, map, string_bytes};
+ghost use Rattle.std.specs.Prelude.{◌≡◌, List, None, Some, map, string_bytes, ℕ};
 ghost use Rattle.std.specs.Io.KnownBytes.{Keeps};
 ghost use Rattle.ckr_console.specs.declared.scripts.Script.{Script};
+ghost use Rattle.ckr_words.specs.Words.{command_of};
 ghost use Rattle.ckr_desk.specs.FirstSync.{FromSync, IsLeft};
 ghost use Rattle.ckr_desk.specs.Model.OpenImages.{event_records};
 ghost use Rattle.ckr_desk.specs.Soundness.{AllSound, HasKept, Sound, desk_opening};
@@ -9,17 +10,15 @@ ghost use Rattle.ckr_desk_format.specs.Formats.{IsFormatted, FormatsBy};
 ghost use Rattle.ckr_outside.specs.Disk.{EachSince};
 ghost use Rattle.ckr_service.specs.Feeds.{faults_of};
 ghost use Rattle.ckr_service.specs.Stops.{HasEverywhere};
-ghost use Rattle.ckr_service.specs.Words.{command_of};
-ghost use Rattle.ckr_service.specs.CallEnds.{HasFormatted, HasRun, serving_status, opening_status, formatting_status};
+ghost use Rattle.ckr_service.specs.CallEnds.{HasFormatted, HasRun, formatting_status};
+ghost use Rattle.ckr_service.specs.Makes.{HasMade};
 
-use crate::roster::Roster;
-use crate::stop::Stop;
-use crate::stream::{Served, serve};
-use crate::words::{Command, Kind, kind_of_words};
+use crate::make::make;
+use crate::run::{Ran, run};
 use ckr_console::Operator;
-use ckr_desk::{Desk, OpenError, Opening};
 use ckr_desk_format::{FormatOutcome, format_disk};
 use ckr_outside::{Disk, Sink, Source};
+use ckr_words::{Command, Kind, kind_of_words};
 use std::alloc::Global;
 
 /// How the call ended, and the disk.
@@ -29,77 +28,8 @@ pub struct Closed<D> {
     pub disk: D,
 }
 
-/// The status of a stream that was served.
-fn serving_status(outcome: Result<bool, Stop>) -> u8
-    ensures { result ≡ serving_status outcome }
-{
-    match outcome {
-        Ok(false) => 0,
-        Ok(true) => 8,
-        Err(Stop::Book) => 3,
-        Err(Stop::Source) => 4,
-        Err(Stop::Sink) => 5,
-        Err(Stop::Disk) => 6,
-        Err(Stop::Memory) => 7,
-        Err(Stop::Limit) => 9,
-    }
-}
-
-/// The status of a disk that isn't opened.
-fn opening_status(error: OpenError) -> u8
-    ensures { result ≡ opening_status error }
-{
-    match error {
-        OpenError::NoMemory => 7,
-        OpenError::Fault => 6,
-        OpenError::NotFormatted
-        | OpenError::Version(_)
-        | OpenError::BadHeader { .. }
-        | OpenError::BadBook { .. }
-        | OpenError::BadEntry { .. } => 2,
-    }
-}
-
-/// Serves the stream on the disk. The first of the operators is in office at the opening.
-fn run<S: Source, K: Sink, D: Disk, O: Operator>(
-    alloc: Global,
-    source: &mut S,
-    sink: &mut K,
-    disk: D,
-    operators: Vec<O>,
-) -> Closed<D>
-    ensures run { HasRun D.told (AllSound D.told D.may_leave D.size disk) (desk_opening (D.content disk) (D.size disk)) (map O.answering operators.items)
-        (λ error. IsLeft D.content D.may_leave D.moment D.left_since D.size D.told (AllSound D.told D.may_leave D.size disk) error disk result.disk)
-        (λ layout came. FromSync D.content D.may_leave D.moment D.left_since disk result.disk (HasKept layout (D.size disk) (event_records layout (D.content disk)) came))
-        (λ layout. HasEverywhere D.content D.may_leave layout (event_records layout (D.content disk)) result.disk)
-        result.status
-        (faults_of (S.faults source.old) (S.faults source.new) (K.faults sink.old) (K.faults sink.new) (D.faults disk) (D.faults result.disk))
-        (S.left source.old) (S.left source.new) (K.written sink.old) (K.written sink.new) }
-    ensures size { D.size result.disk ≡ D.size disk }
-
-    // A stop at any moment leaves a sound image; and the disk that is handed back is sound as the one was that was handed in.
-    ensures safe { AllSound D.told D.may_leave D.size disk → EachSince D.moment D.left_since disk result.disk (Sound (D.size disk)) }
-    ensures sound { AllSound D.told D.may_leave D.size disk → AllSound D.told D.may_leave D.size result.disk }
-{
-    let mut roster = Roster::new(operators);
-    let operator = roster.next();
-    match Desk::open_on(alloc, disk, operator) {
-        Ok(desk) => {
-            let Served { outcome, disk } = serve(alloc, source, sink, desk, roster);
-            Closed {
-                status: serving_status(outcome),
-                disk,
-            }
-        }
-        Err(Opening { error, disk }) => Closed {
-            status: opening_status(error),
-            disk,
-        },
-    }
-}
-
 /// The status of formatting a disk.
-fn formatting_status(outcome: FormatOutcome) -> u8
+pub fn formatting_status(outcome: FormatOutcome) -> u8
     ensures { result ≡ formatting_status outcome }
 {
     match outcome {
@@ -139,13 +69,13 @@ fn format<S: Source, K: Sink, D: Disk>(
 ///
 /// | Status | |
 /// |---|---|
-/// | 0 | the source was read to its end, and nothing was refused |
+/// | 0 | the source was read to its end, and nothing was refused; or the made stream was served to its end |
 /// | 1 | the words are no command |
 /// | 2 | the disk isn't one that is formatted, or what it holds is wrong |
 /// | 3 | the book has no room for an event |
 /// | 4, 5, 6 | the source, the sink, the disk failed |
 /// | 7 | there is no memory |
-/// | 8 | the source was read to its end, and a line or a deck was refused |
+/// | 8 | the source was read to its end, and a line or a deck was refused; or the disk is smaller than the made stream needs |
 /// | 9 | the source gave more bytes than a stream may have |
 pub fn batch_desk<S: Source, K: Sink, D: Disk, O: Operator>(
     alloc: Global,
@@ -175,6 +105,13 @@ pub fn batch_desk<S: Source, K: Sink, D: Disk, O: Operator>(
         (faults_of (S.faults source.old) (S.faults source.new) (K.faults sink.old) (K.faults sink.new) (D.faults disk) (D.faults result.disk))
         (S.left source.old) (S.left source.new) (K.written sink.old) (K.written sink.new) }
 
+    // The source isn't read where a stream is made. The disk is formatted and served on, and what is written is the line of what the calls over the made
+    // stream come to, by the answers of these operators.
+    ensures made { (jobs : ℕ) → command_of (map string_bytes words.now) ≡ Some (Command.Make jobs) →
+        HasMade D.told D.content D.may_leave D.moment D.left_since D.size D.faults (map O.answering operators.items) jobs disk result.disk result.status
+        (K.faults sink.old) (K.faults sink.new) (K.written sink.old) (K.written sink.new)
+        × Keeps (S.left source.old) (S.left source.new) × (S.faults source.new ≡ S.faults source.old) }
+
     // Whatever the words ask for, the disk that is handed back has its size.
     ensures size { D.size result.disk ≡ D.size disk }
 
@@ -186,7 +123,15 @@ pub fn batch_desk<S: Source, K: Sink, D: Disk, O: Operator>(
         AllSound D.told D.may_leave D.size result.disk }
 {
     match kind_of_words(words) {
-        Some(Kind::Run) => run(alloc, source, sink, disk, operators),
+        Some(Kind::Run) => {
+            let Ran {
+                status,
+                counts: _counts,
+                disk,
+            } = run(alloc, source, sink, disk, operators);
+            Closed { status, disk }
+        }
+        Some(Kind::Make { jobs }) => make(alloc, jobs, sink, disk, operators),
         Some(Kind::Format) => format(alloc, source, sink, disk),
         None => Closed { status: 1, disk },
     }

@@ -12,11 +12,13 @@ ghost use Rattle.ckr_service.specs.Service.{HaltCause, attended_of};
 ghost use Rattle.ckr_service.specs.Staff.{attended_event, attended_fits, attended_reply, behind_attended};
 ghost use Rattle.ckr_service.specs.Lines.{IsTold, telling};
 ghost use Rattle.ckr_service.specs.Texts.{answer_text, run_text, goes_on, is_same_work, is_work, work_in, before_runs, with_waiting, waiting_count};
+ghost use Rattle.ckr_service.specs.Tallies.{with_replies};
 ghost use Rattle.ckr_service.specs.Turns.{Adds, IsToldWaiting, TurnHalt, TurnsHaltTelling};
 
 use crate::lines::Lines;
 use crate::report::reply_line;
 use crate::stop::Halt;
+use crate::tally::Tally;
 use crate::text::Text;
 use ckr_base::{Name8, NoMemory};
 use ckr_console::Operator;
@@ -151,11 +153,12 @@ fn one_turn<D: Disk, O: Operator>(desk: &mut Desk<D, O>, turn: Turn) -> Result<R
 }
 
 /// At most so many such turns of an initiator, up to the first behind which it rests, and their lines, which go out before the next turn. Work that isn't known to
-/// have ended isn't told where a turn isn't made.
+/// have ended isn't told where a turn isn't made. Each reply is counted.
 pub fn turned<K: Sink, D: Disk, O: Operator>(
     desk: &mut Desk<D, O>,
     turn: Turn,
     count: u32,
+    tally: &mut Tally,
     lines: &mut Lines,
     sink: &mut K,
 ) -> Result<(), Halt>
@@ -168,6 +171,7 @@ pub fn turned<K: Sink, D: Disk, O: Operator>(
     ensures fits { IsTrusted D.told D.content D.may_leave desk.old → OnOk result (turns_fit turn count (attended_of D.content desk.old) ≡ true) }
     ensures text { IsTrusted D.told D.content D.may_leave desk.old → OnOk result (IsTold (telling lines.old (K.written sink.old) (K.faults sink.old))
         (lines.old.text ++ answer_text (Turned (layout_of desk.old) turn.initiator (turns turn count (attended_of D.content desk.old)))) (telling lines.new (K.written sink.new) (K.faults sink.new))) }
+    ensures tally { IsTrusted D.told D.content D.may_leave desk.old → OnOk result (tally.new ≡ with_replies tally.old (turns turn count (attended_of D.content desk.old))) }
     ensures after { IsTrusted D.told D.content D.may_leave desk.old → OnOk result (attended_of D.content desk.new ≡ after_turns turn count (attended_of D.content desk.old)) }
     ensures is_open { OnOk result (IsOpen desk.new) }
     ensures layout { OnOk result (layout_of desk.new ≡ layout_of desk.old) }
@@ -188,6 +192,7 @@ pub fn turned<K: Sink, D: Disk, O: Operator>(
     for _ in 0..count {
         lines.write(sink);
         let reply = one_turn(desk, turn)?;
+        tally.count(&reply);
         let rests = is_rest(&reply);
         waiting = add(
             desk.layout(),

@@ -10,6 +10,8 @@ mod continuations;
 #[cfg(test)]
 mod denials;
 #[cfg(test)]
+mod makes;
+#[cfg(test)]
 mod operators;
 #[cfg(test)]
 mod programs;

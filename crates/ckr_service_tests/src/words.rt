@@ -10,6 +10,8 @@ enum Expected {
     Format,
     /// A run with so many operators.
     Run(usize),
+    /// So many jobs that are made.
+    Make(u32),
     Refused,
 }
 
@@ -18,33 +20,47 @@ fn is_as_expected(read: &Result<Command, WordsError>, expected: &Expected) -> bo
         (Ok(Command::Run { operators }), Expected::Run(number)) => {
             operators.as_slice().len() == *number
         }
+        (Ok(Command::Make { jobs }), Expected::Make(number)) => jobs == number,
         (Ok(Command::Format), Expected::Format) | (Err(WordsError::Refused), Expected::Refused) =>
             true,
         _ => false,
     }
 }
 
-/// Words, and what they are.
-const WORDS: [(&str, Expected); 19] = [
-    ("format X", Expected::Format),
-    ("run X", Expected::Run(1)),
-    ("run X --reply Y", Expected::Run(1)),
-    ("run X --reply YNH", Expected::Run(1)),
-    ("run X --reply +/H", Expected::Run(2)),
-    ("run X --reply */+/N", Expected::Run(3)),
-    ("", Expected::Refused),
-    ("run", Expected::Refused),
-    ("fly X", Expected::Refused),
-    ("RUN X", Expected::Refused),
-    ("run X Y", Expected::Refused),
-    ("run X --reply", Expected::Refused),
-    ("run X Y --reply", Expected::Refused),
-    ("run --reply Y X", Expected::Refused),
-    ("run X --reply Z", Expected::Refused),
-    ("run X --reply Y/", Expected::Refused),
-    ("run X --reply Y N", Expected::Refused),
-    ("fly X --reply Y", Expected::Refused),
-    ("format X --reply Y", Expected::Refused),
+/// Words, what they are, and the place of DISK.
+const WORDS: [(&str, Expected, Option<u32>); 32] = [
+    ("format X", Expected::Format, Some(1)),
+    ("run X", Expected::Run(1), Some(1)),
+    ("run X --reply Y", Expected::Run(1), Some(1)),
+    ("run X --reply YNH", Expected::Run(1), Some(1)),
+    ("run X --reply +/H", Expected::Run(2), Some(1)),
+    ("run X --reply */+/N", Expected::Run(3), Some(1)),
+    ("run --reply Y X", Expected::Run(1), Some(3)),
+    ("run --reply=+/H X", Expected::Run(2), Some(2)),
+    ("run X --reply=Y", Expected::Run(1), Some(1)),
+    ("run -- -X", Expected::Run(1), Some(2)),
+    ("make 1 X", Expected::Make(1), Some(2)),
+    ("make 1000 X", Expected::Make(1000), Some(2)),
+    ("", Expected::Refused, None),
+    ("run", Expected::Refused, None),
+    ("fly X", Expected::Refused, None),
+    ("RUN X", Expected::Refused, None),
+    ("run X Y", Expected::Refused, None),
+    ("run -X", Expected::Refused, None),
+    ("run X --reply", Expected::Refused, None),
+    ("run X Y --reply", Expected::Refused, None),
+    ("run X --reply Z", Expected::Refused, None),
+    ("run X --reply=Z", Expected::Refused, None),
+    ("run X --reply Y/", Expected::Refused, None),
+    ("run X --reply Y N", Expected::Refused, None),
+    ("run --reply Y --reply Y X", Expected::Refused, None),
+    ("fly X --reply Y", Expected::Refused, None),
+    ("format X --reply Y", Expected::Refused, None),
+    ("make X", Expected::Refused, None),
+    ("make 0 X", Expected::Refused, None),
+    ("make 007 X", Expected::Refused, None),
+    ("make 1001 X", Expected::Refused, None),
+    ("make 5 X --reply Y", Expected::Refused, None),
 ];
 
 fn words_of(alloc: Global, line: &str) -> Result<Vec<String>, AllocError> {
@@ -58,16 +74,12 @@ fn words_of(alloc: Global, line: &str) -> Result<Vec<String>, AllocError> {
 #[test]
 fn words_are_read(rt: HostRuntime) -> Result<(), Fail> {
     let alloc = rt.alloc();
-    for (line, expected) in WORDS {
+    for (line, expected, place) in WORDS {
         let words = words_of(alloc, line)?;
         assert!(rt;
             is_as_expected(&read_words(alloc, &words), &expected),
             "{line}"
         );
-        let place = match expected {
-            Expected::Format | Expected::Run(_) => Some(1),
-            Expected::Refused => None,
-        };
         assert!(rt; disk_place(&words) == place, "{line}");
     }
     Ok(())

@@ -20,7 +20,7 @@ use Rattle.ckr_service.specs.CallEnds.{Ended, NotOpened, HasRun, TakesAtMost, Ha
 use Rattle.ckr_service.proofs.Streams.Feeds.{Consumes-nil}
 use Rattle.ckr_desk.proofs.Openings.FreshDisks.{fresh_image}
 
-Keeps-refl : (a : Option (List ℕ)) → Keeps a a
+pub Keeps-refl : (a : Option (List ℕ)) → Keeps a a
 Keeps-refl None = tt
 Keeps-refl (Some xs) = refl
 
@@ -64,7 +64,7 @@ run_not_opened told trusted opening operators leaves each has error status a c b
 -- ---- formatting
 
 module _ {D : Type 0} (told : Type 0) (content : D → List ℕ) (may_leave : D → List ℕ → Type 0) (size : D → ℕ) (disk : D) where
-  all_sound : {E : Type 0} (said : Result Layout E) → told → IsOkAnd said (IsFormatted told (content disk) (may_leave disk) (size disk)) → AllSound told may_leave size disk
+  pub all_sound : {E : Type 0} (said : Result Layout E) → told → IsOkAnd said (IsFormatted told (content disk) (may_leave disk) (size disk)) → AllSound told may_leave size disk
   all_sound (Ok layout) holds f = record {
     tells = holds;
     sound = λ image left. fresh_image layout (content disk) image (size disk) (f.settled image left) (f.header holds) (f.empty holds);

@@ -19,6 +19,7 @@ use Rattle.ckr_service.specs.declared.stop.Halt.{Halt}
 use Rattle.ckr_service.specs.declared.stop.Halt.TheVariants as Halts
 use Rattle.ckr_service.specs.Calls.{Answer, Accepted, DeckRefused, BrokenOff, answer, fits, after_order, broken_off, replies_of, replies_to, initiator_of, name_in, answer_to_deck, behind_deck, deck_answer, deck_fits, lines_of, order_answer, order_fits, order_in, call_for, is_refusal}
 use Rattle.ckr_service.specs.Events.{deck_event, change_event, order_events, request_events, events_told, order_events_before, order_event_at, events_before, event_at}
+use Rattle.ckr_service.specs.Tallies.{with_answer}
 use Rattle.ckr_service.specs.Texts.{answer_text}
 use Rattle.ckr_service.specs.Turns.{TurnsHalt, turns_text}
 use Rattle.ckr_service.specs.Service.{View, ComesTo, Serves, HaltsSo, ListHalt, ChangeHalt, text_to}
@@ -51,21 +52,21 @@ module _ (a b : View) (cards : List ℕ) (given : Submitted) (old new : TablesMo
 
   -- the job is accepted
   pub deck_accepted : {E : Type 0} (r : Result (Unit {0}) E) (number : ℕ) (t u : List ℕ) → deck_fits a.state cards ≡ true
-      → given ≡ Job number → b.refused ≡ a.refused
+      → given ≡ Job number → b.refused ≡ a.refused → b.tally ≡ a.tally
       → OnOk r (u ≡ t ++ answer_text (Accepted number (name_in number (lines_of new)))) → OnOk r (Serves a b (Deck cards ∷ []) t u)
-  deck_accepted r number t u fit is refused text =
+  deck_accepted r number t u fit is refused counted text =
       let same : Accepted number (name_in number (lines_of new)) ≡ deck_answer a.state cards = ap (λ g. answer_to_deck g (lines_of new)) (sym is) ∙ same_answer in
       serves_one r a b (Deck cards) t u fit state
-      (refused ∙ sym (or-false a.refused) ∙ ap (λ x. a.refused || is_refusal x) same) (came-one fit)
+      (refused ∙ sym (or-false a.refused) ∙ ap (λ x. a.refused || is_refusal x) same) (counted ∙ ap (with_answer a.tally) same) (came-one fit)
       (subst (λ (x : Answer). OnOk r (u ≡ t ++ answer_text x)) same text)
 
   pub deck_refused : {E : Type 0} (r : Result (Unit {0}) E) (number card : ℕ) (t u : List ℕ) → deck_fits a.state cards ≡ true
-      → given ≡ Refused number card → b.refused ≡ true
+      → given ≡ Refused number card → b.refused ≡ true → b.tally ≡ a.tally
       → OnOk r (u ≡ t ++ answer_text (DeckRefused number card)) → OnOk r (Serves a b (Deck cards ∷ []) t u)
-  deck_refused r number card t u fit is refused text =
+  deck_refused r number card t u fit is refused counted text =
       let same : DeckRefused number card ≡ deck_answer a.state cards = ap (λ g. answer_to_deck g (lines_of new)) (sym is) ∙ same_answer in
       serves_one r a b (Deck cards) t u fit state
-      (refused ∙ sym (or-true a.refused) ∙ ap (λ x. a.refused || is_refusal x) same) (came-one fit)
+      (refused ∙ sym (or-true a.refused) ∙ ap (λ x. a.refused || is_refusal x) same) (counted ∙ ap (with_answer a.tally) same) (came-one fit)
       (subst (λ (x : Answer). OnOk r (u ≡ t ++ answer_text x)) same text)
 
 -- ---- a request that isn't served
@@ -195,13 +196,15 @@ module _ (s : StaffedDesk) (number : ℕ) (line : List ℕ) (order : Order) (rea
 
 -- a command that is served to its end
 pub order_served : {E : Type 0} (r : Result (Unit {0}) E) (a b : View) (number : ℕ) (line : List ℕ) (told : Order) (t u : List ℕ) → told ≡ order_in a.state line
-    → order_fits a.state told ≡ true → b.state ≡ after_order a.state told → b.refused ≡ (a.refused || is_refusal (order_answer a.state number told)) → b.events ≡ a.events ++ order_events a.state told
+    → order_fits a.state told ≡ true → b.state ≡ after_order a.state told → b.refused ≡ (a.refused || is_refusal (order_answer a.state number told))
+    → b.tally ≡ with_answer a.tally (order_answer a.state number told) → b.events ≡ a.events ++ order_events a.state told
     → OnOk r (u ≡ t ++ answer_text (order_answer a.state number told)) → OnOk r (Serves a b (Command number line ∷ []) t u)
-order_served r a b number line told t u same fit state refused came text =
+order_served r a b number line told t u same fit state refused counted came text =
     serves_one r a b (Command number line) t u
     (ap (order_fits a.state) (sym same) ∙ fit)
     (state ∙ ap (after_order a.state) same)
     (refused ∙ ap (λ o. a.refused || is_refusal (order_answer a.state number o)) same)
+    (counted ∙ ap (λ o. with_answer a.tally (order_answer a.state number o)) same)
     (came ∙ ap (λ o. a.events ++ order_events a.state o) same)
     (subst (λ (o : Order). OnOk r (u ≡ t ++ answer_text (order_answer a.state number o))) same text)
 
@@ -212,7 +215,7 @@ order_kept refused refused' same = same ∙ sym (or-false refused)
 -- the same of a call's result
 pub order_served_on : {E : Type 0} (r : Result (Unit {0}) E) (a b : View) (number : ℕ) (line : List ℕ) (told : Order) (t u : List ℕ) → told ≡ order_in a.state line
     → OnOk r (order_fits a.state told ≡ true) → OnOk r (b.state ≡ after_order a.state told) → OnOk r (b.refused ≡ (a.refused || is_refusal (order_answer a.state number told)))
-    → OnOk r (b.events ≡ a.events ++ order_events a.state told)
+    → OnOk r (b.tally ≡ with_answer a.tally (order_answer a.state number told)) → OnOk r (b.events ≡ a.events ++ order_events a.state told)
     → OnOk r (u ≡ t ++ answer_text (order_answer a.state number told)) → OnOk r (Serves a b (Command number line ∷ []) t u)
-order_served_on {E = E} (Ok x) a b number line told t u same fit state refused came text = order_served {E = E} (Ok x) a b number line told t u same fit state refused came text
-order_served_on (Err e) a b number line told t u same fit state refused came text = tt
+order_served_on {E = E} (Ok x) a b number line told t u same fit state refused counted came text = order_served {E = E} (Ok x) a b number line told t u same fit state refused counted came text
+order_served_on (Err e) a b number line told t u same fit state refused counted came text = tt

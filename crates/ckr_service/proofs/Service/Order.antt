@@ -6,11 +6,14 @@ use Rattle.std.proofs.lemmas.Grind.{flat_map-append}
 use Rattle.ckr_base.proofs.Bools.{and-first, and-second, or-assoc, or-false}
 use Rattle.ckr_cards.specs.Session.{Handed}
 use Rattle.ckr_service.specs.Staff.{StaffedDesk}
+use Rattle.ckr_service.specs.declared.tally.Tally.{Tally}
 use Rattle.ckr_service.specs.Calls.{Answer, answer, after, fits, replies_of, calls, after_all, all_fit, is_refusal, broken_off}
 use Rattle.ckr_service.specs.Events.{events_told, request_events}
+use Rattle.ckr_service.specs.Tallies.{with_answer, with_answers}
 use Rattle.ckr_service.specs.Texts.{answer_text}
 use Rattle.ckr_service.specs.Service.{View, Serves, text_to}
 use Rattle.ckr_service.proofs.Service.Events.{events_told-append, events_told-one}
+use Rattle.ckr_service.proofs.Service.Tallies.{with_answers-append}
 
 -- ---- what fits
 
@@ -67,7 +70,7 @@ text_to-full s xs ys e = ap (flat_map answer_text) (calls-full s xs ys e)
 -- ---- what is served
 
 pub Serves-nil : (a : View) (t : List ℕ) → Serves a a [] t t
-Serves-nil a t = record { fits = refl; state = refl; refused = or_false a.refused; events = sym (append-nil a.events); text = sym (append-nil t) }
+Serves-nil a t = record { fits = refl; state = refl; refused = or_false a.refused; tally = refl; events = sym (append-nil a.events); text = sym (append-nil t) }
   where
     or_false : (b : Bool) → b ≡ (b || false)
     or_false true = refl
@@ -85,6 +88,10 @@ Serves-append a b c xs ys t u v first second =
           ∙ ap (λ s. a.refused || list_any is_refusal (calls a.state xs) || list_any is_refusal (calls s ys)) from
           ∙ or-assoc a.refused (list_any is_refusal (calls a.state xs)) (list_any is_refusal (calls (after_all a.state xs) ys))
           ∙ ap (λ r. a.refused || r) (sym (ap (list_any is_refusal) both ∙ list_any-append is_refusal (calls a.state xs) (calls (after_all a.state xs) ys)));
+      tally = second.tally
+          ∙ ap (λ (t : Tally). with_answers t (calls b.state ys)) first.tally
+          ∙ ap (λ s. with_answers (with_answers a.tally (calls a.state xs)) (calls s ys)) from
+          ∙ sym (ap (with_answers a.tally) both ∙ with_answers-append a.tally (calls a.state xs) (calls (after_all a.state xs) ys));
       events = second.events
           ∙ ap (λ e. e ++ events_told b.state ys) first.events
           ∙ ap (λ s. (a.events ++ events_told a.state xs) ++ events_told s ys) from
@@ -100,21 +107,22 @@ Serves-append a b c xs ys t u v first second =
 pub Serves-from : (a b c : View) (xs ys : List Handed) (t u : List ℕ) → Serves a b xs [] t → Serves b c ys [] u → Serves a c (xs ++ ys) [] (t ++ u)
 Serves-from a b c xs ys t u first second =
     Serves-append a b c xs ys [] t (t ++ u) first
-    (record { fits = second.fits; state = second.state; refused = second.refused; events = second.events; text = ap (λ l. t ++ l) second.text })
+    (record { fits = second.fits; state = second.state; refused = second.refused; tally = second.tally; events = second.events; text = ap (λ l. t ++ l) second.text })
 
 -- ---- one request
 
 -- where its answer is told
 pub serves_one : {E : Type 0} (r : Result (Unit {0}) E) (a b : View) (request : Handed) (t u : List ℕ) → fits a.state request ≡ true → b.state ≡ after a.state request
-    → b.refused ≡ (a.refused || is_refusal (answer a.state request)) → b.events ≡ a.events ++ request_events a.state request
+    → b.refused ≡ (a.refused || is_refusal (answer a.state request)) → b.tally ≡ with_answer a.tally (answer a.state request) → b.events ≡ a.events ++ request_events a.state request
     → OnOk r (u ≡ t ++ answer_text (answer a.state request)) → OnOk r (Serves a b (request ∷ []) t u)
-serves_one (Err e) a b request t u fit state refused came text = tt
-serves_one (Ok x) a b request t u fit state refused came text =
+serves_one (Err e) a b request t u fit state refused counted came text = tt
+serves_one (Ok x) a b request t u fit state refused counted came text =
     let called : calls a.state (request ∷ []) ≡ answer a.state request ∷ [] = ap (call_and a.state request []) fit in
     record {
       fits = ap (λ f. f && true) fit;
       state = state;
       refused = refused ∙ ap (λ b. a.refused || b) (sym (ap (list_any is_refusal) called ∙ or-false (is_refusal (answer a.state request))));
+      tally = counted ∙ sym (ap (with_answers a.tally) called);
       events = came ∙ ap (λ e. a.events ++ e) (sym (events_told-one a.state request));
       text = text ∙ ap (λ l. t ++ l) (sym (ap (flat_map answer_text) called ∙ append-nil (answer_text (answer a.state request))));
     }

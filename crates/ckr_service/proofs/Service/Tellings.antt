@@ -15,7 +15,7 @@ use Rattle.ckr_service.proofs.Tellings.{front_longer, front_told, told_more}
 
 -- what is told of the same, behind any other text
 serves_behind_text : (a b : View) (xs : List Handed) (t u text : List ℕ) → Serves a b xs t u → Serves a b xs text (text ++ text_to a.state xs)
-serves_behind_text a b xs t u text s = record { fits = s.fits; state = s.state; refused = s.refused; events = s.events; text = refl }
+serves_behind_text a b xs t u text s = record { fits = s.fits; state = s.state; refused = s.refused; tally = s.tally; events = s.events; text = refl }
 
 -- the text of the first requests comes first
 text_to-front : (s : StaffedDesk) (xs ys : List Handed) → (more : List ℕ) × (text_to s (xs ++ ys) ≡ text_to s xs ++ more)

@@ -46,6 +46,8 @@ module _ {D O : Type 0} (content : D → List ℕ) where
         subst (Appends start new) serves.text (Appends-trans start old new p.text text p.written w),
         serves.refused ∙ ap (λ r. r || list_any is_refusal (calls first.state (requests_of all))) clean,
         serves.events,
+        serves.state,
+        serves.tally,
       )
 
   -- the serving stops within the last requests

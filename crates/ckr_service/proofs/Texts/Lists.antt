@@ -5,7 +5,7 @@ use Rattle.std.proofs.lemmas.Grind.{flat_map-append}
 use Rattle.std.proofs.lemmas.List.{take_all, take_more}
 use Rattle.std.proofs.lemmas.Option.{get_or_from_slice_get, none-some, slice_get_within}
 
-past : {X : Type 0} (l : List X) (n : ℕ) → None ≡ slice_get l n → length l ≤ n
+pub past : {X : Type 0} (l : List X) (n : ℕ) → None ≡ slice_get l n → length l ≤ n
 past [] n is = omega arith
 past (x ∷ xs) zero is = absurd (none-some x is)
 past (x ∷ xs) (suc n) is = omega (arith, past xs n is)

@@ -7,10 +7,12 @@ use Rattle.ckr_service.specs.Events.{turns_events}
 use Rattle.ckr_service.specs.Service.{attended_of}
 use Rattle.ckr_desk.specs.Model.Layout.{Layout}
 use Rattle.ckr_desk.specs.Model.Reply.{Reply}
-use Rattle.ckr_service.specs.Calls.{is_rest}
+use Rattle.ckr_service.specs.Calls.{is_rest, turns}
 use Rattle.ckr_service.specs.Lines.{IsTold, telling}
+use Rattle.ckr_service.specs.Tallies.{with_replies}
 use Rattle.ckr_service.specs.Texts.{run_text, with_waiting}
 use Rattle.ckr_service.specs.Turns.{Adds, TurnHalt, Turns, TurnsHaltTelling}
+use Rattle.ckr_service.proofs.Service.Tallies.{counted_last, counted_more}
 use Rattle.ckr_service.proofs.Service.Turns.{adds_behind_text, no_more, turns_begun, turn_counted, turn_made, turn_rests, turns_counted, turns_front, turns_made, turns_halted}
 use Rattle.ckr_service.proofs.Calls.Stops.{came_there, goes_nowhere, goes_then, stopped_behind, stopped_here}
 use Rattle.ckr_service.proofs.Streams.Feeds.{handed_on}
@@ -34,6 +36,7 @@ loop-init g c =
     let lines = c.args.lines.now in
     let from = telling lines (g.K.Sink.written c.args.sink.now) (g.K.Sink.faults c.args.sink.now) in
     record {
+      tally = λ holds. ap (λ (k : ℕ). with_replies c.args.tally.now (turns c.args.turn k s)) (sym (same_count c.args.count));
       turns = λ holds. record {
         told = lines.text;
         so = subst (λ (k : ℕ). Turns (layout_of c.args.desk.now) c.args.turn c.args.count k s s None lines.text lines.text (events_at d.content c.args.desk.now) (events_at d.content c.args.desk.now)) (same_count c.args.count)
@@ -66,6 +69,9 @@ loop-preserved g c =
     let more = flat_map (run_text layout c.args.turn.initiator) adds.ended in
     let from = telling c.args.lines.now (g.K.Sink.written c.args.sink.now) (g.K.Sink.faults c.args.sink.now) in
     record {
+      tally = λ holds.
+          counted_more c.args.turn (c.args.count - c.loop.counter) m _ _ c.in_ok-reply.reply c.loop.tally c.count.new.self less (o.fits (i.trusted holds)) (o.reply (i.trusted holds)) (o.after (i.trusted holds)) busy c.count.ensures
+          ∙ i.tally holds;
       turns = λ holds.
           (let turns = i.turns holds in
           record {
@@ -167,6 +173,17 @@ returns-then-rests-clause-events g c holds =
     (adds_behind_text layout c.args.turn.initiator c.loop.waiting c.in_ok-reply.reply c.in_ok-waiting.waiting lines.text c.add.new.out turns.told adds)
     (none_waits layout c.args.turn.initiator c.in_ok-waiting.waiting (turns.told ++ more) (c.in_ok-waiting.ensures.rest rests)) in
     ap (λ (l : Layout). event_records l (g.D.Disk.content (disk_of c.one_turn.new.desk))) (sym (o.layout ∙ i.layout)) ∙ all.events
+
+pub returns-then-rests-clause-tally : goal.returns-then-rests-clause-tally
+returns-then-rests-clause-tally g c holds =
+    let i = c.loop.invariant in
+    let o = c.in_ok-reply.ensures in
+    let here = i.trusted holds in
+    let m = c.args.count - (c.loop.counter + 1) in
+    let less : c.args.count - c.loop.counter ≡ suc m = omega arith in
+    let rests : is_rest c.in_ok-reply.reply ≡ true = sym c.is_rest-rests.ensures ∙ c.if-rests.true in
+    counted_last c.args.turn (c.args.count - c.loop.counter) m _ c.in_ok-reply.reply c.loop.tally c.count.new.self less (o.fits here) (o.reply here) c.count.ensures rests
+    ∙ i.tally holds
 
 pub returns-then-rests-clause-goes : goal.returns-then-rests-clause-goes
 returns-then-rests-clause-goes g c holds =
@@ -291,6 +308,12 @@ returns-clause-fits g c holds =
     let more = flat_map (run_text layout c.args.turn.initiator) (with_waiting c.loop.waiting []) in
     let all = turns_made layout c.args.turn c.args.count (c.args.count - c.loop.counter) _ _ _ _ turns.told (turns.told ++ more) _ _ none turns.so refl in
     all.fits
+
+pub returns-clause-tally : goal.returns-clause-tally
+returns-clause-tally g c holds =
+    let i = c.loop.invariant in
+    let none : c.args.count - c.loop.counter ≡ 0 = omega arith in
+    ap (λ (k : ℕ). with_replies c.loop.tally (turns c.args.turn k (attended_of g.D.Disk.content c.loop.desk))) (sym none) ∙ i.tally holds
 
 pub returns-clause-after : goal.returns-clause-after
 returns-clause-after g c holds =

@@ -3,15 +3,20 @@ use Rattle.ckr_outside.specs.Faults.{Rose}
 use Rattle.ckr_desk.specs.Model.OpenImages.{event_records}
 use Rattle.ckr_desk.specs.Soundness.{IsTrusted}
 use Rattle.ckr_desk.specs.State.{IsOpen, disk_of, layout_of}
+use Rattle.ckr_service.specs.Calls.{turns}
 use Rattle.ckr_service.specs.Lines.{TellsSo, telling}
 use Rattle.ckr_service.specs.Texts.{waiting_count}
 use Rattle.ckr_service.specs.Service.{attended_of}
 use Rattle.ckr_service.specs.Stops.{Goes}
+use Rattle.ckr_service.specs.Tallies.{with_replies}
 use Rattle.ckr_service.specs.Turns.{IsToldWaiting, Turns}
 use Rattle.ckr_service.proofs.turns.turned.Given as goal
 
 abbrev pub invariant-loop : goal.invariant-loop
 invariant-loop g l = record {
+  -- what is counted so far, with the replies to come, is all that is to be counted
+  tally : IsTrusted g.D.Disk.told g.D.Disk.content g.D.Disk.may_leave l.fn.desk
+      → with_replies l.tally (turns l.turn (l.count - l.counter) (attended_of g.D.Disk.content l.desk)) ≡ with_replies l.fn.tally (turns l.turn l.count (attended_of g.D.Disk.content l.fn.desk));
   turns : IsTrusted g.D.Disk.told g.D.Disk.content g.D.Disk.may_leave l.fn.desk
       → TellsSo
       (λ told. Turns (layout_of l.fn.desk) l.turn l.count (l.count - l.counter) (attended_of g.D.Disk.content l.fn.desk) (attended_of g.D.Disk.content l.desk) l.waiting l.fn.lines.text told

@@ -18,6 +18,7 @@ use Rattle.ckr_service.specs.Staff.{AttendedDesk, StaffedDesk, tables_at, with_a
 use Rattle.ckr_service.specs.Texts.{answer_text}
 use Rattle.ckr_service.proofs.Service.Answers.{comes_none, order_served_on, order_kept, tables_in, turns_halted_so, turns_text_to, list_halted_so, change_halted_so}
 use Rattle.ckr_service.proofs.Service.Staff.{goes-with_operator, staffed-same, trusted-with_operator}
+use Rattle.ckr_service.proofs.Service.Tallies.{change-uncounted, list-uncounted, shift-uncounted}
 use Rattle.ckr_service.proofs.Cards.{on_ok}
 use Rattle.ckr_service.proofs.Calls.Halts.{halts_quiet_on, memory_here}
 use Rattle.ckr_service.proofs.Calls.Stops.{events_on, goes_nowhere, goes_on_to, same_events, stopped_on}
@@ -51,7 +52,7 @@ returns-in-Turns-clause-serves g c holds =
     let told = from.waits ++ answer_text (Turned (layout_of old.desk) turn.initiator (turns turn c.in-Turns.count (attended_of d.content old.desk))) in
     tells_on c.turned.result (Serves (seen d.content old) _ (Command c.args.number line ∷ []) from.waits) from (telling c.turned.new.lines (g.K.Sink.written c.turned.new.sink) (g.K.Sink.faults c.turned.new.sink)) told
     (order_served_on c.turned.result (seen d.content old) _ c.args.number line (Turns turn c.in-Turns.count) from.waits told (sym c.in-Turns.is ∙ reads)
-    (c.turned.ensures.fits holds) (turned_after c.turned.result (staffed_of d.content old) _ _ (c.turned.ensures.after holds)) (on_ok c.turned.result _ (order_kept old.refused _ refl))
+    (c.turned.ensures.fits holds) (turned_after c.turned.result (staffed_of d.content old) _ _ (c.turned.ensures.after holds)) (on_ok c.turned.result _ (order_kept old.refused _ refl)) (c.turned.ensures.tally holds)
     (events_on d.content d.moment d.left_since d.size c.turned.result old.desk c.turned.new.desk _ c.turned.ensures.layout (c.turned.ensures.events holds)) (on_ok c.turned.result _ refl))
     (c.turned.ensures.text holds)
 
@@ -64,7 +65,7 @@ returns-in-ListOf-clause-serves g c holds =
     let from = telling c.args.lines.now (g.K.Sink.written c.args.sink.now) (g.K.Sink.faults c.args.sink.now) in
     tells_quiet c.list.result (Serves (seen d.content old) (seen d.content c.list.new.self) (Command c.args.number line ∷ []) from.waits) from (quiet from c.list.new.out) c.requires.fresh refl
     (order_served_on c.list.result (seen d.content old) (seen d.content c.list.new.self) c.args.number line (ListOf c.in-ListOf.name) _ _ (sym c.in-ListOf.is ∙ reads)
-    (on_ok c.list.result _ refl) (c.list.ensures.state holds) (c.list.ensures.refused holds)
+    (on_ok c.list.result _ refl) (c.list.ensures.state holds) (c.list.ensures.refused holds) (on_ok c.list.result _ (c.list.ensures.tally ∙ sym (list-uncounted old.tally c.args.number _)))
     (events_on d.content d.moment d.left_since d.size c.list.result old.desk c.list.new.self.desk [] c.list.ensures.layout (c.list.ensures.events holds)) (c.list.ensures.text holds))
 
 pub returns-in-Sets-clause-serves : goal.returns-in-Sets-clause-serves
@@ -78,7 +79,7 @@ returns-in-Sets-clause-serves g c holds =
     tells_quiet c.list_sets.result (Serves (seen d.content old) (seen d.content c.list_sets.new.self) (Command c.args.number line ∷ []) from.waits) from (quiet from c.list_sets.new.out) c.requires.fresh refl
     (order_served_on c.list_sets.result (seen d.content old) (seen d.content c.list_sets.new.self) c.args.number line Sets _ _ (sym c.in-Sets.is ∙ reads)
     (on_ok c.list_sets.result _ refl) (on_ok c.list_sets.result _ (ap (staffed_of d.content) e.clerk))
-    (on_ok c.list_sets.result _ (order_kept old.refused _ (ap (λ (o : _). o.refused) e.clerk)))
+    (on_ok c.list_sets.result _ (order_kept old.refused _ (ap (λ (o : _). o.refused) e.clerk))) (on_ok c.list_sets.result _ (ap (λ (o : _). o.tally) e.clerk))
     (on_ok c.list_sets.result _ (same_events d.content d.moment d.left_since d.size old.desk c.list_sets.new.self.desk (ap (λ (o : _). o.desk) e.clerk))) (e.text holds))
 
 pub returns-in-Jobs-clause-serves : goal.returns-in-Jobs-clause-serves
@@ -92,7 +93,7 @@ returns-in-Jobs-clause-serves g c holds =
     tells_quiet c.list_jobs.result (Serves (seen d.content old) (seen d.content c.list_jobs.new.self) (Command c.args.number line ∷ []) from.waits) from (quiet from c.list_jobs.new.out) c.requires.fresh refl
     (order_served_on c.list_jobs.result (seen d.content old) (seen d.content c.list_jobs.new.self) c.args.number line Jobs _ _ (sym c.in-Jobs.is ∙ reads)
     (on_ok c.list_jobs.result _ refl) (on_ok c.list_jobs.result _ (ap (staffed_of d.content) e.clerk))
-    (on_ok c.list_jobs.result _ (order_kept old.refused _ (ap (λ (o : _). o.refused) e.clerk)))
+    (on_ok c.list_jobs.result _ (order_kept old.refused _ (ap (λ (o : _). o.refused) e.clerk))) (on_ok c.list_jobs.result _ (ap (λ (o : _). o.tally) e.clerk))
     (on_ok c.list_jobs.result _ (same_events d.content d.moment d.left_since d.size old.desk c.list_jobs.new.self.desk (ap (λ (o : _). o.desk) e.clerk)))
     (subst (λ (t : TablesModel). OnOk c.list_jobs.result (c.list_jobs.new.out ≡ c.args.lines.now.text ++ answer_text (JobsListed (lines_of t)))) (tables_in d.told d.content d.may_leave old.desk holds) e.text))
 
@@ -113,6 +114,7 @@ returns-in-Change-clause-serves g c holds =
     (subst (λ (t : TablesModel). OnOk c.change.result (call_fits s.attended.state (call_for change t job) ≡ true)) there (e.fits holds))
     (subst (λ (t : TablesModel). OnOk c.change.result (staffed_of d.content c.change.new.self ≡ with_call s (call_for change t job))) there (e.after holds))
     (subst (λ (t : TablesModel). OnOk c.change.result (c.change.new.self.refused ≡ (old.refused || is_refusal (change_answer change c.args.number job (may_change change t job))))) there e.refused)
+    (on_ok c.change.result _ (e.tally ∙ sym (change-uncounted old.tally change c.args.number job _)))
     (change_came c.change.result (call_fits s.attended.state (call_for change (tables_at s) job)) (change_event change s job) _ _
     (subst (λ (t : TablesModel). OnOk c.change.result (call_fits s.attended.state (call_for change t job) ≡ true)) there (e.fits holds))
     (subst (λ (t : TablesModel). OnOk c.change.result (event_records (layout_of c.change.new.self.desk) (d.content (disk_of c.change.new.self.desk)) ≡ event_records (layout_of old.desk) (d.content (disk_of old.desk)) ++ spelled (event_in (call_for change t job)))) there
@@ -130,7 +132,7 @@ returns-in-Shift-clause-serves g c holds =
     let from = telling c.args.lines.now (g.K.Sink.written c.args.sink.now) (g.K.Sink.faults c.args.sink.now) in
     tells_quiet c.shift.result (Serves (seen d.content old) (seen d.content new) (Command c.args.number line ∷ []) from.waits) from (quiet from c.shift.new.out) c.requires.fresh refl
     (order_served_on c.shift.result (seen d.content old) (seen d.content new) c.args.number line Shift _ _ (sym c.in-Shift.is ∙ reads)
-    (on_ok c.shift.result _ refl) (on_ok c.shift.result _ e.after) e.refused
+    (on_ok c.shift.result _ refl) (on_ok c.shift.result _ e.after) e.refused (on_ok c.shift.result _ (e.tally ∙ sym (shift-uncounted old.tally c.args.number old.roster.place old.roster.later)))
     (on_ok c.shift.result _ (ap (λ (w : DeskView _). event_records (layout_of w) (d.content (disk_of w))) e.desk ∙ sym (append-nil _))) e.text)
 
 pub returns-in-Unknown-clause-serves : goal.returns-in-Unknown-clause-serves
@@ -144,7 +146,7 @@ returns-in-Unknown-clause-serves g c holds =
     tells_quiet c.refuse_line.result (Serves (seen d.content old) (seen d.content c.refuse_line.new.self) (Command c.args.number line ∷ []) from.waits) from (quiet from c.refuse_line.new.out) c.requires.fresh refl
     (order_served_on c.refuse_line.result (seen d.content old) (seen d.content c.refuse_line.new.self) c.args.number line Unknown _ _ (sym c.in-Unknown.is ∙ reads)
     (on_ok c.refuse_line.result _ refl) (on_ok c.refuse_line.result _ (staffed-same (staffed_of d.content c.refuse_line.new.self) (staffed_of d.content old) (ap (state_of d.content) e.desk) (ap operator_of e.desk) e.roster))
-    (on_ok c.refuse_line.result _ (e.refused ∙ sym (or-true old.refused)))
+    (on_ok c.refuse_line.result _ (e.refused ∙ sym (or-true old.refused))) (on_ok c.refuse_line.result _ e.tally)
     (on_ok c.refuse_line.result _ (same_events d.content d.moment d.left_since d.size old.desk c.refuse_line.new.self.desk e.desk)) e.text)
 
 -- ---- what isn't

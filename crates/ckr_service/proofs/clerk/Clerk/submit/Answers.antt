@@ -40,7 +40,7 @@ returns-in-Ok-Job-clause-serves g c holds =
     ∙ ap (λ (t : TablesModel). event_records (layout_of old.desk) (d.content (disk_of old.desk)) ++ spelled (event_in (submit_call t cards))) there)
     c.accept.result c.in-Ok-Job.number _ _
     (ap (λ (t : TablesModel). call_fits s.attended.state (submit_call t cards)) (sym there) ∙ call-fits s.attended.state (submit_call (tables_in_memory old.desk) cards) (e.comes holds).fits)
-    c.in-Ok-Job.field-0-is (ap (λ (o : _). o.refused) c.accept.ensures.clerk) c.accept.ensures.text
+    c.in-Ok-Job.field-0-is (ap (λ (o : _). o.refused) c.accept.ensures.clerk) (ap (λ (o : _). o.tally) c.accept.ensures.clerk) c.accept.ensures.text
 
 pub returns-in-Ok-Refused-clause-serves : goal.returns-in-Ok-Refused-clause-serves
 returns-in-Ok-Refused-clause-serves g c holds =
@@ -61,7 +61,7 @@ returns-in-Ok-Refused-clause-serves g c holds =
     ∙ ap (λ (t : TablesModel). event_records (layout_of old.desk) (d.content (disk_of old.desk)) ++ spelled (event_in (submit_call t cards))) there)
     c.refuse_deck.result c.in-Ok-Refused.number c.in-Ok-Refused.card _ _
     (ap (λ (t : TablesModel). call_fits s.attended.state (submit_call t cards)) (sym there) ∙ call-fits s.attended.state (submit_call (tables_in_memory old.desk) cards) (e.comes holds).fits)
-    c.in-Ok-Refused.field-0-is c.refuse_deck.ensures.refused c.refuse_deck.ensures.text
+    c.in-Ok-Refused.field-0-is c.refuse_deck.ensures.refused c.refuse_deck.ensures.tally c.refuse_deck.ensures.text
 
 pub returns-in-Ok-Job-clause-halt : goal.returns-in-Ok-Job-clause-halt
 returns-in-Ok-Job-clause-halt g c holds =

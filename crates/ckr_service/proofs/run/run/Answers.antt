@@ -2,7 +2,7 @@ use Rattle.std.proofs.Common.{◌∙◌, ℕ, List, map}
 use Rattle.ckr_desk.specs.FirstSync.{FromSync, IsLeft}
 use Rattle.ckr_desk.specs.Model.Layout.{Layout}
 use Rattle.ckr_desk.specs.Model.OpenImages.{event_records}
-use Rattle.ckr_desk.specs.Soundness.{AllSound, HasKept, IsTrusted, state_of}
+use Rattle.ckr_desk.specs.Soundness.{AllSound, HasKept, IsTrusted, desk_opening, state_of}
 use Rattle.ckr_desk.specs.State.{disk_of, layout_of, opened_of}
 use Rattle.ckr_service.specs.Service.{staffed_by}
 use Rattle.ckr_service.specs.Staff.{staffed_with}
@@ -11,7 +11,8 @@ use Rattle.ckr_service.proofs.Calls.Ends.{run_ended, run_not_opened}
 use Rattle.ckr_service.proofs.Calls.OpenStops.{all_sound_after, each_served, has_served, sound_from, sound_left}
 use Rattle.ckr_service.proofs.Service.Ends.{serving_so, some_came}
 use Rattle.ckr_service.proofs.Service.Staff.{staffed-opened}
-use Rattle.ckr_service.proofs.top.run.Goals as goal
+use Rattle.ckr_service.proofs.Streams.Behind.{counted_from}
+use Rattle.ckr_service.proofs.run.run.Goals as goal
 
 pub returns-in-Ok : goal.returns-in-Ok
 returns-in-Ok g c =
@@ -41,6 +42,8 @@ returns-in-Ok g c =
       run = run_ended d.told (AllSound d.told d.may_leave d.size disk) (d.content disk) (d.size disk) (opened_of desk) (state_of d.content desk) operators
           (λ error. IsLeft d.content d.may_leave d.moment d.left_since d.size d.told (AllSound d.told d.may_leave d.size disk) error disk end) each has
           outcome _ _ _ _ _ _ e.read e.opened c.serving_status.ensures served;
+      counted = counted_from (IsTrusted d.told d.content d.may_leave desk) (AllSound d.told d.may_leave d.size disk) (staffed_by d.content desk c.next-operator.new.self) operators (state_of d.content desk) (desk_opening (d.content disk) (d.size disk))
+          outcome c.serve-outcome.result.counts _ _ _ c.serving_status.ensures e.trusted e.opened opened s.counted;
       size = s.size ∙ e.size;
       safe = safe;
       sound = λ all. all_sound_after d.told d.content d.may_leave d.moment d.left_since d.size disk end all (s.size ∙ e.size) (laws.counts_now end) (safe all);
@@ -57,6 +60,7 @@ returns-in-Err g c =
     record {
       run = run_not_opened _ _ _ _ (λ error. IsLeft d.content d.may_leave d.moment d.left_since d.size d.told (AllSound d.told d.may_leave d.size disk) error disk end) _ _ c.in-Err.field-0.error _ _ _ _ _ _ _
           c.opening_status.ensures e.cause e.left;
+      counted = λ all state is whole. tt;
       size = e.size_left;
       safe = safe;
       sound = λ all. all_sound_after d.told d.content d.may_leave d.moment d.left_since d.size disk end all e.size_left (laws.counts_now end) (safe all);
