@@ -3,3 +3,4 @@ pub mod Stops
 pub mod OpenStops
 pub mod Texts
 pub mod Halts
+pub mod Completeness

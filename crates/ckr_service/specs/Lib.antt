@@ -19,3 +19,4 @@ pub mod MadeDisk
 pub mod Faultless
 pub mod CallEnds
 pub mod Makes
+pub mod Completeness

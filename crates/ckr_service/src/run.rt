@@ -6,6 +6,7 @@ ghost use Rattle.ckr_desk.specs.Soundness.{AllSound, HasKept, Sound, desk_openin
 ghost use Rattle.ckr_desk.specs.State.{RoomyDesk};
 ghost use Rattle.ckr_outside.specs.Disk.{EachSince};
 ghost use Rattle.ckr_service.specs.CallEnds.{HasRun, is_whole, opening_status, serving_status};
+ghost use Rattle.ckr_service.specs.Completeness.{CompletesRun};
 ghost use Rattle.ckr_service.specs.Feeds.{IsCounted, faults_of};
 ghost use Rattle.ckr_service.specs.Staff.{staffed_with};
 ghost use Rattle.ckr_service.specs.Stops.{HasEverywhere};
@@ -74,6 +75,8 @@ pub fn run<S: Source, K: Sink, D: Disk, O: Operator>(
         (S.left source.old) (S.left source.new) (K.written sink.old) (K.written sink.new) }
     ensures counted { AllSound D.told D.may_leave D.size disk → (state : RoomyDesk) → desk_opening (D.content disk) (D.size disk) ≡ Ok state → is_whole result.status ≡ true
         → IfSome result.counts (λ counts. IsCounted (AllSound D.told D.may_leave D.size disk) (staffed_with (map O.answering operators.items) state) counts (S.left source.old) (S.left source.new)) }
+    ensures completes { AllSound D.told D.may_leave D.size disk → CompletesRun (desk_opening (D.content disk) (D.size disk)) (map O.answering operators.items) result.status
+        (faults_of (S.faults source.old) (S.faults source.new) (K.faults sink.old) (K.faults sink.new) (D.faults disk) (D.faults result.disk)) (S.left source.old) }
     ensures size { D.size result.disk ≡ D.size disk }
 
     // A stop at any moment leaves a sound image; and the disk that is handed back is sound as the one was that was handed in.

@@ -12,6 +12,7 @@ ghost use Rattle.ckr_service.specs.Feeds.{faults_of};
 ghost use Rattle.ckr_service.specs.Stops.{HasEverywhere};
 ghost use Rattle.ckr_service.specs.CallEnds.{HasFormatted, HasRun, formatting_status};
 ghost use Rattle.ckr_service.specs.Makes.{HasMade};
+ghost use Rattle.ckr_service.specs.Completeness.{CompletesFormat, CompletesRun};
 
 use crate::make::make;
 use crate::run::{Ran, run};
@@ -55,6 +56,8 @@ fn format<S: Source, K: Sink, D: Disk>(
         (AllSound D.told D.may_leave D.size result.disk) result.status
         (faults_of (S.faults source.old) (S.faults source.new) (K.faults sink.old) (K.faults sink.new) (D.faults disk) (D.faults result.disk))
         (S.left source.old) (S.left source.new) (K.written sink.old) (K.written sink.new) }
+    ensures carries_out { CompletesFormat (D.size disk) result.status
+        (faults_of (S.faults source.old) (S.faults source.new) (K.faults sink.old) (K.faults sink.new) (D.faults disk) (D.faults result.disk)) (S.left source.old) }
     ensures size { D.size result.disk ≡ D.size disk }
 {
     let outcome = format_disk(alloc, source, sink, &mut disk);
@@ -111,6 +114,14 @@ pub fn batch_desk<S: Source, K: Sink, D: Disk, O: Operator>(
         HasMade D.told D.content D.may_leave D.moment D.left_since D.size D.faults (map O.answering operators.items) jobs disk result.disk result.status
         (K.faults sink.old) (K.faults sink.new) (K.written sink.old) (K.written sink.new)
         × Keeps (S.left source.old) (S.left source.new) × (S.faults source.new ≡ S.faults source.old) }
+
+    // Where nothing fails and there is room, a run serves its stream to the end, and ends with 0, or with 8 where a line or a deck is refused; and what
+    // cards say of the disk is carried out. Want of memory alone ends them with 7 before.
+    ensures completes { (scripts : List Script) → command_of (map string_bytes words.now) ≡ Some (Command.Run scripts) → AllSound D.told D.may_leave D.size disk →
+        CompletesRun (desk_opening (D.content disk) (D.size disk)) (map O.answering operators.items) result.status
+        (faults_of (S.faults source.old) (S.faults source.new) (K.faults sink.old) (K.faults sink.new) (D.faults disk) (D.faults result.disk)) (S.left source.old) }
+    ensures carries_out { command_of (map string_bytes words.now) ≡ Some Command.Format → CompletesFormat (D.size disk) result.status
+        (faults_of (S.faults source.old) (S.faults source.new) (K.faults sink.old) (K.faults sink.new) (D.faults disk) (D.faults result.disk)) (S.left source.old) }
 
     // Whatever the words ask for, the disk that is handed back has its size.
     ensures size { D.size result.disk ≡ D.size disk }

@@ -7,6 +7,7 @@ use Rattle.ckr_desk.specs.State.{disk_of, layout_of, opened_of}
 use Rattle.ckr_service.specs.Service.{staffed_by}
 use Rattle.ckr_service.specs.Staff.{staffed_with}
 use Rattle.ckr_service.specs.Stops.{HasEverywhere, HasSuch, KeepsTo}
+use Rattle.ckr_service.proofs.Calls.Completeness.{run-completes}
 use Rattle.ckr_service.proofs.Calls.Ends.{run_ended, run_not_opened}
 use Rattle.ckr_service.proofs.Calls.OpenStops.{all_sound_after, each_served, has_served, sound_from, sound_left}
 use Rattle.ckr_service.proofs.Service.Ends.{serving_so, some_came}
@@ -38,10 +39,12 @@ returns-in-Ok g c =
     let safe = (λ (all : AllSound d.told d.may_leave d.size disk).
     (let came = some_came (AllSound d.told d.may_leave d.size disk) (each (layout_of desk)) (has (layout_of desk)) start outcome _ _ _ _ _ served all in
     sound_from d.told d.content d.may_leave d.moment d.left_since d.size disk end (HasKept (layout_of desk) (d.size disk) (event_records (layout_of desk) (d.content disk)) came.0) all came.1 (λ image kept. kept.sound))) in
+    let ended = run_ended d.told (AllSound d.told d.may_leave d.size disk) (d.content disk) (d.size disk) (opened_of desk) (state_of d.content desk) operators
+    (λ error. IsLeft d.content d.may_leave d.moment d.left_since d.size d.told (AllSound d.told d.may_leave d.size disk) error disk end) each has
+    outcome _ _ _ _ _ _ e.read e.opened c.serving_status.ensures served in
     record {
-      run = run_ended d.told (AllSound d.told d.may_leave d.size disk) (d.content disk) (d.size disk) (opened_of desk) (state_of d.content desk) operators
-          (λ error. IsLeft d.content d.may_leave d.moment d.left_since d.size d.told (AllSound d.told d.may_leave d.size disk) error disk end) each has
-          outcome _ _ _ _ _ _ e.read e.opened c.serving_status.ensures served;
+      run = ended;
+      completes = λ all. run-completes _ _ _ _ _ _ _ _ _ _ _ _ _ ended all.tells all;
       counted = counted_from (IsTrusted d.told d.content d.may_leave desk) (AllSound d.told d.may_leave d.size disk) (staffed_by d.content desk c.next-operator.new.self) operators (state_of d.content desk) (desk_opening (d.content disk) (d.size disk))
           outcome c.serve-outcome.result.counts _ _ _ c.serving_status.ensures e.trusted e.opened opened s.counted;
       size = s.size ∙ e.size;
@@ -57,9 +60,14 @@ returns-in-Err g c =
     let end = c.in-Err.field-0.disk in
     let laws = g.met.D.Disk g.world.𝓛 g.world.𝓜 g.world.𝓡 ((λ s x. x), (λ x. x), (λ x. x), λ x. x) in
     let safe = (λ (all : AllSound d.told d.may_leave d.size disk). sound_left d.told d.content d.may_leave d.moment d.left_since d.size c.in-Err.field-0.error disk end all e.left) in
+    let ended = run_not_opened d.told (AllSound d.told d.may_leave d.size disk) (desk_opening (d.content disk) (d.size disk)) (map g.O.Operator.answering c.args.operators.items)
+    (λ error. IsLeft d.content d.may_leave d.moment d.left_since d.size d.told (AllSound d.told d.may_leave d.size disk) error disk end)
+    (λ layout came. FromSync d.content d.may_leave d.moment d.left_since disk end (HasKept layout (d.size disk) (event_records layout (d.content disk)) came))
+    (λ layout. HasEverywhere d.content d.may_leave layout (event_records layout (d.content disk)) end) c.in-Err.field-0.error _ (g.S.Source.faults c.args.source.now) (g.K.Sink.faults c.args.sink.now) (d.faults disk) (d.faults end)
+    (g.S.Source.left c.args.source.now) (g.K.Sink.written c.args.sink.now) c.opening_status.ensures e.cause e.left in
     record {
-      run = run_not_opened _ _ _ _ (λ error. IsLeft d.content d.may_leave d.moment d.left_since d.size d.told (AllSound d.told d.may_leave d.size disk) error disk end) _ _ c.in-Err.field-0.error _ _ _ _ _ _ _
-          c.opening_status.ensures e.cause e.left;
+      run = ended;
+      completes = λ all. run-completes _ _ _ _ _ _ _ _ _ _ _ _ _ ended all.tells all;
       counted = λ all state is whole. tt;
       size = e.size_left;
       safe = safe;

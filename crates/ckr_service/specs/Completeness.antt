@@ -1,0 +1,47 @@
+-- A call comes to its end where nothing fails and there is room, unless it finds no memory.
+use Rattle.std.specs.Prelude.{◌≡◌, ◌≤◌, ◌⊎◌, ℕ, Bool, true, List, length, Option, Some, Result, Ok, Err}
+use Rattle.std.specs.Str.Lines.{lines}
+use Rattle.ckr_console.specs.Answering.{Answering}
+use Rattle.ckr_outside.specs.Faults.{Rose}
+use Rattle.ckr_desk.specs.declared.error.OpenError.{OpenError}
+use Rattle.ckr_desk.specs.State.{RoomyDesk}
+use Rattle.ckr_desk_format.specs.Installation.{installation_of}
+use Rattle.ckr_service.specs.Calls.{all_fit}
+use Rattle.ckr_service.specs.CallEnds.{serving_status}
+use Rattle.ckr_service.specs.Feeds.{Faults}
+use Rattle.ckr_service.specs.Staff.{StaffedDesk, staffed_with}
+use Rattle.ckr_service.specs.Stream.{has_refusal, requests_of}
+
+-- neither the source, the sink nor the disk failed meanwhile
+pub record NoneFailed (faults : Faults) : Type 0 where
+  pub source : Rose faults.source_before faults.source_now → ⊥
+  pub sink : Rose faults.sink_before faults.sink_now → ⊥
+  pub disk : Rose faults.disk_before faults.disk_now → ⊥
+
+-- these are all the bytes that the source gives, no more than a stream may have, and nothing failed
+pub record GivesAll (all : List ℕ) (source : Option (List ℕ)) (faults : Faults) : Type 0 where
+  pub bytes : source ≡ Some all
+  pub few : length all ≤ 16_777_216
+  pub works : NoneFailed faults
+
+-- it ended with the status of its end, or with that of want of memory
+abbrev pub EndsOrLacks : ℕ → ℕ → Type 0
+EndsOrLacks status end = (status ≡ end) ⊎ (status ≡ 7)
+
+-- the status of a stream that is served to its end: whether a line or a deck of it is refused
+abbrev pub served_status : StaffedDesk → List ℕ → ℕ
+served_status state all = serving_status (Ok (has_refusal state all))
+
+-- A stream is served to its end, on a disk that opens and has room in its book for all of its events.
+abbrev pub CompletesRun : Result RoomyDesk OpenError → List Answering → ℕ → Faults → Option (List ℕ) → Type 0
+CompletesRun opening operators status faults source = (state : RoomyDesk) (all : List ℕ) → opening ≡ Ok state → GivesAll all source faults
+    → all_fit (staffed_with operators state) (requests_of all) ≡ true → EndsOrLacks status (served_status (staffed_with operators state) all)
+
+-- the status of cards that are carried out: whether they are refused
+abbrev pub carried_status : {L E : Type 0} → Result L E → ℕ
+carried_status (Ok layout) = 0
+carried_status (Err refusal) = 8
+
+-- What cards say of a disk of this size is carried out.
+abbrev pub CompletesFormat : ℕ → ℕ → Faults → Option (List ℕ) → Type 0
+CompletesFormat size status faults source = (all : List ℕ) → GivesAll all source faults → EndsOrLacks status (carried_status (installation_of (lines all) size))
