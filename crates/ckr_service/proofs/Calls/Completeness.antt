@@ -3,7 +3,7 @@ use Rattle.std.proofs.Common.{◌≡◌, ◌≤◌, ℕ, Bool, true, List, [], �
 use Rattle.std.specs.Prelude.{IsErr, IsOkAnd}
 use Rattle.std.specs.Io.KnownBytes.{Consumes, IsAtEnd}
 use Rattle.std.specs.Str.Lines.{lines}
-use Rattle.ckr_base.proofs.Bools.{true-not-false}
+use Rattle.ckr_base.proofs.Bools.{false-not-true, true-not-false}
 use Rattle.ckr_console.specs.Answering.{Answering}
 use Rattle.ckr_outside.specs.Faults.{Rose}
 use Rattle.ckr_desk.specs.Model.Layout.{Layout}
@@ -110,7 +110,7 @@ ok-carried (Ok layout) formatted holds = refl
 ok-carried (Err refusal) formatted holds = absurd holds
 
 err-carried : {L E : Type 0} (said : Result L E) → IsErr said → 8 ≡ carried_status said
-err-carried (Ok layout) holds = absurd holds
+err-carried (Ok layout) holds = false-not-true holds
 err-carried (Err refusal) holds = refl
 
 module _ (size : ℕ) (formatted formats : Layout → Type 0) (same : Type 0) (all : List ℕ) (few : length all ≤ 16_777_216) (faults : Faults) (works : NoneFailed faults) (rest old new : Option (List ℕ)) (status : ℕ) where
