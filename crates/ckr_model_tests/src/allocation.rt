@@ -76,7 +76,7 @@ const IS_FOUND: Allotment = Allotment::Found;
 
 const IS_MADE: Allotment = Allotment::Made;
 
-const ROWS: [Row; 11] = [
+static ROWS: [Row; 11] = [
     (Status::New, None, false, false, true, IS_MADE),
     (Status::New, Some(true), false, false, true, EXISTS),
     (Status::Old, None, true, true, true, MISSING),

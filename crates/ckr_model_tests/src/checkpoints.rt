@@ -370,7 +370,7 @@ const AGAIN: &[Entry] = &[(2, 0, 143)];
 
 /// In order; what follows is told. An entry begins behind the last record, ends within the space, has an identifier that
 /// isn't there, and its length is the one behind it.
-const ROWS: [Row; 21] = [
+static ROWS: [Row; 21] = [
     (1, Told::Submitted(&WRITES), true, NONE),
     (1, Told::Selected, true, NONE),
     (1, Told::Started(0, Some(1024)), true, NONE),

@@ -25,7 +25,7 @@ const OUTPUT: &[u8] = b"//SYSUT2 DD DSN=OUT.K,DISP=(NEW,CATLG),SPACE=(80,10)";
 const ENTRIES: &[u8] = b"//CHKDD DD DSN=CHK.K,DISP=(NEW,CATLG),SPACE=(256,4)";
 
 /// The run that is to be continued. Its step makes OUT.K, and CHK.K with two entries.
-pub(crate) const BEFORE: [Row; 7] = [
+pub(crate) static BEFORE: [Row; 7] = [
     (1, Told::Submitted(&WRITES), true, NONE),
     (1, Told::Selected, true, NONE),
     (1, Told::Started(0, Some(1024)), true, NONE),
@@ -104,7 +104,7 @@ type Judged = (
 );
 
 /// Submitted in this order behind the earlier run, from run 2 on.
-const DECKS: [Judged; 8] = [
+static DECKS: [Judged; 8] = [
     (&AT_START, Verdict::Denied(Rule::D9), Some(b"CHK.K"), b"S1"),
     (&AT_CHECKPOINT, Verdict::Checkpoint, None, b"S1"),
     (&OF_NO_RUN, Verdict::Denied(Rule::D1), None, b"S1"),

@@ -24,7 +24,9 @@ use ckr_points_deferred::{
     RunNow, WantedNow, deferred_case, denial_of, earlier_number, run_now, wanted_of,
 };
 use ckr_points_tables::Tables;
-use ckr_rules::{Rule, Verdict, deferred};
+use ckr_rules::Rule::{D1, D2, D3, D4, D5, D6, D7, D8, D9, D10};
+use ckr_rules::Verdict::{Checkpoint, Denied, Step};
+use ckr_rules::{Verdict, deferred};
 use ckr_volumes::Layout;
 use std::alloc::Global;
 use std::test::Fail;
@@ -46,185 +48,52 @@ type Judged = (
 );
 
 /// Behind both jobs. The first rule that holds decides; a data set is named in ascending order of the names; and a run that waits is no earlier run.
-const BEHIND_BOTH: [Judged; 25] = [
-    (&AT_ENTRY, Verdict::Checkpoint, None, None, None, 2),
-    (&AT_NO_ENTRY, Verdict::Denied(Rule::D3), None, None, None, 2),
-    (
-        &AT_START,
-        Verdict::Denied(Rule::D9),
-        Some(b"CHK.K"),
-        None,
-        None,
-        2,
-    ),
-    (&OF_NO_JOB, Verdict::Denied(Rule::D1), None, None, None, 0),
-    (
-        &OF_NO_JOB_AND_SET,
-        Verdict::Denied(Rule::D1),
-        None,
-        None,
-        None,
-        0,
-    ),
-    (&IN_NO_SET, Verdict::Denied(Rule::D2), None, None, None, 2),
-    (
-        &IN_A_PLAIN_SET,
-        Verdict::Denied(Rule::D2),
-        None,
-        None,
-        None,
-        2,
-    ),
-    (
-        &ON_ANOTHER_VOLUME,
-        Verdict::Denied(Rule::D2),
-        None,
-        None,
-        None,
-        2,
-    ),
-    (&ON_ITS_VOLUME, Verdict::Checkpoint, None, None, None, 2),
-    (
-        &NO_ENTRY_IN_A_PLAIN_SET,
-        Verdict::Denied(Rule::D2),
-        None,
-        None,
-        None,
-        2,
-    ),
-    (
-        &AT_THE_NEXT_ENTRY,
-        Verdict::Denied(Rule::D3),
-        None,
-        None,
-        None,
-        2,
-    ),
-    (
-        &OF_ANOTHER_JOB,
-        Verdict::Denied(Rule::D4),
-        None,
-        None,
-        None,
-        2,
-    ),
-    (
-        &OF_ANOTHER_STEP,
-        Verdict::Denied(Rule::D4),
-        None,
-        None,
-        None,
-        2,
-    ),
-    (
-        &AT_AN_ADDED_STEP,
-        Verdict::Denied(Rule::D6),
-        None,
-        None,
-        None,
-        2,
-    ),
-    (
-        &AT_ANOTHER_STEP,
-        Verdict::Denied(Rule::D6),
-        None,
-        None,
-        None,
-        2,
-    ),
-    (
-        &MAKES_AGAIN,
-        Verdict::Denied(Rule::D9),
-        Some(b"IN.A"),
-        None,
-        None,
-        1,
-    ),
-    (
-        &MAKES_ANOTHER_RECORD,
-        Verdict::Denied(Rule::D7),
-        None,
-        None,
-        None,
-        1,
-    ),
-    (
-        &WITH_ANOTHER_PARM,
-        Verdict::Denied(Rule::D7),
-        None,
-        None,
-        None,
-        2,
-    ),
-    (
-        &WITH_ANOTHER_DISPOSITION,
-        Verdict::Denied(Rule::D7),
-        None,
-        None,
-        None,
-        2,
-    ),
-    (
-        &BEHIND_A_STEP,
-        Verdict::Denied(Rule::D7),
-        None,
-        None,
-        None,
-        2,
-    ),
-    (
-        &START_BEHIND_A_STEP,
-        Verdict::Denied(Rule::D7),
-        None,
-        None,
-        None,
-        2,
-    ),
-    (&WITH_ANOTHER_RD, Verdict::Checkpoint, None, None, None, 2),
-    (&IN_ANOTHER_ORDER, Verdict::Checkpoint, None, None, None, 2),
-    (&WITH_A_LATER_STEP, Verdict::Checkpoint, None, None, None, 2),
-    (
-        &AT_ENTRY_OF_THE_FIRST_STEP,
-        Verdict::Checkpoint,
-        None,
-        None,
-        None,
-        2,
-    ),
+static BEHIND_BOTH: [Judged; 25] = [
+    (&AT_ENTRY, Checkpoint, None, None, None, 2),
+    (&AT_NO_ENTRY, Denied(D3), None, None, None, 2),
+    (&AT_START, Denied(D9), Some(b"CHK.K"), None, None, 2),
+    (&OF_NO_JOB, Denied(D1), None, None, None, 0),
+    (&OF_NO_JOB_AND_SET, Denied(D1), None, None, None, 0),
+    (&IN_NO_SET, Denied(D2), None, None, None, 2),
+    (&IN_A_PLAIN_SET, Denied(D2), None, None, None, 2),
+    (&ON_ANOTHER_VOLUME, Denied(D2), None, None, None, 2),
+    (&ON_ITS_VOLUME, Checkpoint, None, None, None, 2),
+    (&NO_ENTRY_IN_A_PLAIN_SET, Denied(D2), None, None, None, 2),
+    (&AT_THE_NEXT_ENTRY, Denied(D3), None, None, None, 2),
+    (&OF_ANOTHER_JOB, Denied(D4), None, None, None, 2),
+    (&OF_ANOTHER_STEP, Denied(D4), None, None, None, 2),
+    (&AT_AN_ADDED_STEP, Denied(D6), None, None, None, 2),
+    (&AT_ANOTHER_STEP, Denied(D6), None, None, None, 2),
+    (&MAKES_AGAIN, Denied(D9), Some(b"IN.A"), None, None, 1),
+    (&MAKES_ANOTHER_RECORD, Denied(D7), None, None, None, 1),
+    (&WITH_ANOTHER_PARM, Denied(D7), None, None, None, 2),
+    (&WITH_ANOTHER_DISPOSITION, Denied(D7), None, None, None, 2),
+    (&BEHIND_A_STEP, Denied(D7), None, None, None, 2),
+    (&START_BEHIND_A_STEP, Denied(D7), None, None, None, 2),
+    (&WITH_ANOTHER_RD, Checkpoint, None, None, None, 2),
+    (&IN_ANOTHER_ORDER, Checkpoint, None, None, None, 2),
+    (&WITH_A_LATER_STEP, Checkpoint, None, None, None, 2),
+    (&AT_ENTRY_OF_THE_FIRST_STEP, Checkpoint, None, None, None, 2),
 ];
 
 /// IN.A has one more record, by another job.
-const BEHIND_ANOTHER_RECORD: [Judged; 3] = [
+static BEHIND_ANOTHER_RECORD: [Judged; 3] = [
     (
         &AT_ENTRY,
-        Verdict::Denied(Rule::D10),
+        Denied(D10),
         Some(b"IN.A"),
         Some((1, 1, 0, 60)),
         Some((3, 1, 0, 61)),
         2,
     ),
-    (
-        &AT_START,
-        Verdict::Denied(Rule::D9),
-        Some(b"CHK.K"),
-        None,
-        None,
-        2,
-    ),
-    (
-        &MAKES_AGAIN,
-        Verdict::Denied(Rule::D9),
-        Some(b"IN.A"),
-        None,
-        None,
-        1,
-    ),
+    (&AT_START, Denied(D9), Some(b"CHK.K"), None, None, 2),
+    (&MAKES_AGAIN, Denied(D9), Some(b"IN.A"), None, None, 1),
 ];
 
 /// An output of the step may be longer, but not of another stamp.
-const BEHIND_AN_EMPTIED_OUTPUT: [Judged; 1] = [(
+static BEHIND_AN_EMPTIED_OUTPUT: [Judged; 1] = [(
     &AT_ENTRY,
-    Verdict::Denied(Rule::D10),
+    Denied(D10),
     Some(b"OUT.K"),
     Some((2, 1, 0, 20)),
     Some((3, 1, 0, 1)),
@@ -232,137 +101,53 @@ const BEHIND_AN_EMPTIED_OUTPUT: [Judged; 1] = [(
 )];
 
 /// What was there at the entry is gone, and what was to be made is gone too.
-const BEHIND_NO_INPUT: [Judged; 2] = [
-    (
-        &AT_ENTRY,
-        Verdict::Denied(Rule::D8),
-        Some(b"IN.A"),
-        None,
-        None,
-        2,
-    ),
-    (&MAKES_AGAIN, Verdict::Step, None, None, None, 1),
+static BEHIND_NO_INPUT: [Judged; 2] = [
+    (&AT_ENTRY, Denied(D8), Some(b"IN.A"), None, None, 2),
+    (&MAKES_AGAIN, Step, None, None, None, 1),
 ];
 
-const BEHIND_NO_OUTPUT: [Judged; 1] = [(
-    &AT_ENTRY,
-    Verdict::Denied(Rule::D8),
-    Some(b"OUT.K"),
-    None,
-    None,
-    2,
-)];
+static BEHIND_NO_OUTPUT: [Judged; 1] = [(&AT_ENTRY, Denied(D8), Some(b"OUT.K"), None, None, 2)];
 
-const BEHIND_NEITHER: [Judged; 1] = [(
-    &AT_ENTRY,
-    Verdict::Denied(Rule::D8),
-    Some(b"IN.A"),
-    None,
-    None,
-    2,
-)];
+static BEHIND_NEITHER: [Judged; 1] = [(&AT_ENTRY, Denied(D8), Some(b"IN.A"), None, None, 2)];
 
-const BEHIND_NO_ENTRIES: [Judged; 2] = [
-    (&AT_ENTRY, Verdict::Denied(Rule::D2), None, None, None, 2),
-    (
-        &AT_START,
-        Verdict::Denied(Rule::D9),
-        Some(b"OUT.K"),
-        None,
-        None,
-        2,
-    ),
+static BEHIND_NO_ENTRIES: [Judged; 2] = [
+    (&AT_ENTRY, Denied(D2), None, None, None, 2),
+    (&AT_START, Denied(D9), Some(b"OUT.K"), None, None, 2),
 ];
 
-const BEHIND_NOTHING_MADE: [Judged; 1] = [(&AT_START, Verdict::Step, None, None, None, 2)];
+static BEHIND_NOTHING_MADE: [Judged; 1] = [(&AT_START, Step, None, None, None, 2)];
 
 /// Its rule comes behind those of the entry, and before those of its step. What it makes is cataloged at its end alone.
-const BESIDE_A_RUNNING_JOB: [Judged; 6] = [
-    (&AT_ENTRY, Verdict::Denied(Rule::D2), None, None, None, 2),
-    (
-        &ON_ITS_VOLUME,
-        Verdict::Denied(Rule::D5),
-        None,
-        None,
-        None,
-        2,
-    ),
-    (
-        &NO_ENTRY_ON_ITS_VOLUME,
-        Verdict::Denied(Rule::D3),
-        None,
-        None,
-        None,
-        2,
-    ),
-    (
-        &ANOTHER_STEP_ON_ITS_VOLUME,
-        Verdict::Denied(Rule::D4),
-        None,
-        None,
-        None,
-        2,
-    ),
-    (&AT_START, Verdict::Denied(Rule::D5), None, None, None, 2),
-    (
-        &AT_ANOTHER_STEP,
-        Verdict::Denied(Rule::D5),
-        None,
-        None,
-        None,
-        2,
-    ),
+static BESIDE_A_RUNNING_JOB: [Judged; 6] = [
+    (&AT_ENTRY, Denied(D2), None, None, None, 2),
+    (&ON_ITS_VOLUME, Denied(D5), None, None, None, 2),
+    (&NO_ENTRY_ON_ITS_VOLUME, Denied(D3), None, None, None, 2),
+    (&ANOTHER_STEP_ON_ITS_VOLUME, Denied(D4), None, None, None, 2),
+    (&AT_START, Denied(D5), None, None, None, 2),
+    (&AT_ANOTHER_STEP, Denied(D5), None, None, None, 2),
 ];
 
-const BEHIND_AN_UNCATALOGED_SET: [Judged; 2] = [
-    (
-        &IN_AN_UNCATALOGED_SET,
-        Verdict::Denied(Rule::D2),
-        None,
-        None,
-        None,
-        2,
-    ),
-    (
-        &ON_THE_VOLUME_OF_IT,
-        Verdict::Checkpoint,
-        None,
-        None,
-        None,
-        2,
-    ),
+static BEHIND_AN_UNCATALOGED_SET: [Judged; 2] = [
+    (&IN_AN_UNCATALOGED_SET, Denied(D2), None, None, None, 2),
+    (&ON_THE_VOLUME_OF_IT, Checkpoint, None, None, None, 2),
 ];
 
 /// The latest job of the name, and at a checkpoint the one that wrote the entry.
-const BEHIND_THE_SAME_NAME: [Judged; 3] = [
-    (&AT_START, Verdict::Denied(Rule::D6), None, None, None, 3),
-    (&AT_THE_LATER_STEP, Verdict::Step, None, None, None, 3),
-    (&AT_ENTRY, Verdict::Checkpoint, None, None, None, 2),
+static BEHIND_THE_SAME_NAME: [Judged; 3] = [
+    (&AT_START, Denied(D6), None, None, None, 3),
+    (&AT_THE_LATER_STEP, Step, None, None, None, 3),
+    (&AT_ENTRY, Checkpoint, None, None, None, 2),
 ];
 
-const BEHIND_THE_FIRST_STEP: [Judged; 3] = [
-    (
-        &AT_THE_SECOND,
-        Verdict::Denied(Rule::D6),
-        None,
-        None,
-        None,
-        1,
-    ),
-    (&AT_THE_FIRST, Verdict::Step, None, None, None, 1),
-    (
-        &THE_OTHER_WAY_ROUND,
-        Verdict::Denied(Rule::D7),
-        None,
-        None,
-        None,
-        1,
-    ),
+static BEHIND_THE_FIRST_STEP: [Judged; 3] = [
+    (&AT_THE_SECOND, Denied(D6), None, None, None, 1),
+    (&AT_THE_FIRST, Step, None, None, None, 1),
+    (&THE_OTHER_WAY_ROUND, Denied(D7), None, None, None, 1),
 ];
 
-const BEHIND_THE_SECOND_STEP: [Judged; 2] = [
-    (&AT_THE_SECOND, Verdict::Step, None, None, None, 1),
-    (&AT_THE_FIRST, Verdict::Step, None, None, None, 1),
+static BEHIND_THE_SECOND_STEP: [Judged; 2] = [
+    (&AT_THE_SECOND, Step, None, None, None, 1),
+    (&AT_THE_FIRST, Step, None, None, None, 1),
 ];
 
 /// A data set was seen so.
@@ -397,7 +182,7 @@ fn is_told_so<'a>(tables: &Tables, run: &RunNow<'a>, wanted: &WantedNow<'a>, row
     requires earlier { IfSome wanted.now.earlier IsRunNow }
 {
     match row.1 {
-        Verdict::Denied(rule) => tells_so(&denial_of(tables, run, wanted, rule), row),
+        Denied(rule) => tells_so(&denial_of(tables, run, wanted, rule), row),
         _ => true,
     }
 }

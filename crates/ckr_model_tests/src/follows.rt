@@ -10,12 +10,12 @@ use std::test::Fail;
 
 /// Submitted in this order behind the ended run, from run 2 on. The first goes on from the start of the step, and is denied: CHK.K is
 /// there now, and wasn't then. The second goes on from a checkpoint, and is permitted. The third has no RESTART.
-const DECKS: [&[&[u8]]; 3] = [&AT_START, &AT_CHECKPOINT, &WRITES];
+static DECKS: [&[&[u8]]; 3] = [&AT_START, &AT_CHECKPOINT, &WRITES];
 
 /// A selection: the run, the initiator, the earlier run, the step, the checkpoint, and whether it follows.
 type Selection = (u32, u8, u32, u8, Option<&'static [u8]>, bool);
 
-const SELECTIONS: [Selection; 13] = [
+static SELECTIONS: [Selection; 13] = [
     (3, 1, 1, 1, Some(b"C0000002"), true),
     (3, 2, 1, 1, Some(b"C0000002"), false),
     (3, 1, 2, 1, Some(b"C0000002"), false),
@@ -32,7 +32,7 @@ const SELECTIONS: [Selection; 13] = [
 ];
 
 /// A run, and whether its denial follows: it waits and has RESTART, whichever rule holds. Run 5 isn't there.
-const DENIALS: [(u32, bool); 5] = [(1, false), (2, true), (3, true), (4, false), (5, false)];
+static DENIALS: [(u32, bool); 5] = [(1, false), (2, true), (3, true), (4, false), (5, false)];
 
 /// The identifier of a text, if one is given.
 fn identifier(text: Option<&[u8]>) -> Option<CheckId> {

@@ -13,7 +13,7 @@ use std::process::Abort;
 use std::test::Fail;
 
 /// Step S2 of run 1 is continued by run 2: it reads IN.A, extends OUT.A and prints; S3, of run 2, extends B.X. S1 isn't needed.
-const DECK: [&[u8]; 12] = [
+static DECK: [&[u8]; 12] = [
     b"//K JOB RESTART=S2",
     b"//S1 EXEC PGM=IEFBR14",
     b"//A DD DSN=A.X,DISP=OLD",
@@ -60,7 +60,7 @@ const PRINT: &[u8] = b"SYSOUT.J0000001.S2.P";
 
 const MARKS: [Line; 5] = [A, B, IN, OUT, (PRINT, None)];
 
-const ROWS: [Row; 21] = [
+static ROWS: [Row; 21] = [
     (true, (&MARKS, &[A, B, IN, OUT]), &[], None),
     (false, (&MARKS, &[A, B, IN, OUT]), &[], None),
     (true, (&MARKS, &[B, IN, OUT]), &[], None),

@@ -128,7 +128,7 @@ fn does<R: Abort>(rt: &R, alloc: Global, kind: Kind, key: &[u8], cases: &[Case])
     Ok(())
 }
 
-const MERGES: [Case; 11] = [
+static MERGES: [Case; 11] = [
     (
         &[b"A1", b"C1"],
         &[b"A2", b"B2"],
@@ -168,7 +168,7 @@ const MERGES: [Case; 11] = [
 ];
 
 /// A column of KEY beyond the record is a blank.
-const SHORT: [Case; 1] = [(
+static SHORT: [Case; 1] = [(
     &[b"ABC", b"ABZ1"],
     &[b"AB", b"AB  X", b"ABZ"],
     b"=AB\n=AB  X\n=ABC\n=ABZ\n=ABZ1\n",
@@ -182,7 +182,7 @@ fn merges_by_a_key(rt: HostRuntime) -> Result<(), Fail> {
 }
 
 /// MASTER by column 1 of the image.
-const MASTERS: [Case; 19] = [
+static MASTERS: [Case; 19] = [
     (
         &[],
         &[b"AK1", b"CK2", b"DK", b"CK3", b"AK4"],
@@ -235,7 +235,7 @@ fn masters_by_a_key(rt: HostRuntime) -> Result<(), Fail> {
 }
 
 /// UPDATE by column 1 of the image.
-const UPDATES: [Case; 13] = [
+static UPDATES: [Case; 13] = [
     (&[b"A1", b"B1", b"C1"], &[b"CB2"], b"1B2\n", ENDED),
     (
         &[b"A1", b"B1", b"C1"],

@@ -77,7 +77,7 @@ fn is_named(script: &Script, named: &Named) -> bool {
 }
 
 /// Words, and the operators that they name.
-const NAMED: [(&[u8], &[Named]); 7] = [
+static NAMED: [(&[u8], &[Named]); 7] = [
     (b"+", &[Named::Standing]),
     (b"*", &[Named::Cautious]),
     (b"Y", &[Named::Answers(&[Answer::Yes])]),
@@ -108,13 +108,13 @@ const NAMED: [(&[u8], &[Named]); 7] = [
 
 #[test]
 fn words_name_operators(rt: HostRuntime) -> Result<(), Fail> {
-    for (word, named) in NAMED {
+    for (word, named) in &NAMED {
         assert!(rt; are_scripts(word));
         let Some(scripts) = read_scripts(rt.alloc(), word)? else {
             return Err("the word names operators".into());
         };
         assert_eq!(rt; scripts.as_slice().len(), named.len());
-        for (script, named) in scripts.as_slice().iter().zip(named) {
+        for (script, named) in scripts.as_slice().iter().zip(*named) {
             assert!(rt; is_named(script, named));
         }
     }
@@ -122,13 +122,13 @@ fn words_name_operators(rt: HostRuntime) -> Result<(), Fail> {
 }
 
 /// Words of which a part names no operator.
-const UNNAMED: [&[u8]; 10] = [
+static UNNAMED: [&[u8]; 10] = [
     b"", b"/", b"Y/", b"/Y", b"Y//N", b"y", b"YX", b"++", b"+Y", b"Y N",
 ];
 
 #[test]
 fn other_words_name_none(rt: HostRuntime) -> Result<(), Fail> {
-    for word in UNNAMED {
+    for word in &UNNAMED {
         assert!(rt; !are_scripts(word));
         assert!(rt; read_scripts(rt.alloc(), word)?.is_none());
     }

@@ -103,16 +103,16 @@ fn does<R: Abort>(rt: &R, alloc: Global, kind: Kind, cases: &[Case]) -> Result<(
 }
 
 /// COPY writes each record.
-const COPIES: [Case; 2] = [
+static COPIES: [Case; 2] = [
     (b"", &RECORDS, b"ABXY\nABX\nABXYZ\nAXYB\n\n  XY\n", ENDED),
     (b"", &[], b"", ENDED),
 ];
 
 /// IEFBR14 writes none.
-const IDLE: [Case; 1] = [(b"ANY=,", &[], b"", ENDED)];
+static IDLE: [Case; 1] = [(b"ANY=,", &[], b"", ENDED)];
 
 /// SELECT writes the records whose columns equal VAL; a column beyond the record never equals.
-const SELECTIONS: [Case; 5] = [
+static SELECTIONS: [Case; 5] = [
     (b"COL=3,VAL=XY", &RECORDS, b"ABXY\nABXYZ\n  XY\n", ENDED),
     (b"COL=3,VAL=X", &RECORDS, b"ABXY\nABX\nABXYZ\n  XY\n", ENDED),
     (b"COL=4,VAL=Y ", &RECORDS, b"", ENDED),
@@ -148,7 +148,7 @@ fn lines_of(text: &[u8]) -> (u32, &[u8], &[u8]) {
 /// A number of records `7`, the PARM, the number of lines, the first one of the second page, and the last one.
 type Page = (usize, &'static [u8], u32, &'static [u8], &'static [u8]);
 
-const PAGES: [Page; 9] = [
+static PAGES: [Page; 9] = [
     (0, b"SUM=1:1", 1, b"", b"0TOTAL 0"),
     (0, b"TITLE=T", 0, b"", b""),
     (1, b"TITLE=PAY ROLL,SUM=1:1", 3, b"", b"0TOTAL 7"),
@@ -186,7 +186,7 @@ fn pages_are_printed(rt: HostRuntime) -> Result<(), Fail> {
 }
 
 /// PRINT of single records: the first page, a long sum, and fields that aren't digits.
-const PRINTED: [Case; 5] = [
+static PRINTED: [Case; 5] = [
     (
         b"TITLE=PAYROLL,SUM=2:5",
         &[b"A00100", b"B00250", b"C00030"],
@@ -230,7 +230,7 @@ fn a_long_record_is_cut(rt: HostRuntime) -> Result<(), Fail> {
 /// A PARM of COPY, and what a step does with four records: U a unit, C a checkpoint, X a cancel, F its end.
 type Course = (&'static [u8], &'static [u8]);
 
-const COURSES: [Course; 5] = [
+static COURSES: [Course; 5] = [
     (b"", b"UUUUUF"),
     (b"CHK=2", b"UUCUUCUF"),
     (b"CHK=4,CANCEL=4", b"UUUUCXUF"),

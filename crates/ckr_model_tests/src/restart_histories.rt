@@ -10,7 +10,7 @@ use crate::restart_decks::{
 pub(crate) type JobEvent = (u32, Told);
 
 /// IN.A is there, and behind it OUT.K of 22 records and CHK.K with the entry C0000001; both jobs have ended.
-pub(crate) const ENDED: [JobEvent; 10] = [
+pub(crate) static ENDED: [JobEvent; 10] = [
     (1, Told::Submitted(&MAKES)),
     (1, Told::Selected),
     (1, Told::StartedMaking(1, &[(2, 0, 100)])),
@@ -23,7 +23,7 @@ pub(crate) const ENDED: [JobEvent; 10] = [
     (2, Told::Failed(22, &[22, 3])),
 ];
 
-pub(crate) const EXTENDED: [JobEvent; 5] = [
+pub(crate) static EXTENDED: [JobEvent; 5] = [
     (3, Told::Submitted(&EXTENDS)),
     (3, Told::Selected),
     (3, Told::StartedMaking(1, &[])),
@@ -31,7 +31,7 @@ pub(crate) const EXTENDED: [JobEvent; 5] = [
     (3, Told::Ended),
 ];
 
-pub(crate) const EMPTIED: [JobEvent; 5] = [
+pub(crate) static EMPTIED: [JobEvent; 5] = [
     (3, Told::Submitted(&EMPTIES)),
     (3, Told::Selected),
     (3, Told::StartedMaking(1, &[])),
@@ -39,7 +39,7 @@ pub(crate) const EMPTIED: [JobEvent; 5] = [
     (3, Told::Ended),
 ];
 
-pub(crate) const INPUT_DELETED: [JobEvent; 5] = [
+pub(crate) static INPUT_DELETED: [JobEvent; 5] = [
     (3, Told::Submitted(&DELETES_THE_INPUT)),
     (3, Told::Selected),
     (3, Told::StartedMaking(1, &[])),
@@ -47,7 +47,7 @@ pub(crate) const INPUT_DELETED: [JobEvent; 5] = [
     (3, Told::Ended),
 ];
 
-pub(crate) const OUTPUT_DELETED: [JobEvent; 5] = [
+pub(crate) static OUTPUT_DELETED: [JobEvent; 5] = [
     (3, Told::Submitted(&DELETES_THE_OUTPUT)),
     (3, Told::Selected),
     (3, Told::StartedMaking(1, &[])),
@@ -55,7 +55,7 @@ pub(crate) const OUTPUT_DELETED: [JobEvent; 5] = [
     (3, Told::Ended),
 ];
 
-pub(crate) const ENTRIES_DELETED: [JobEvent; 5] = [
+pub(crate) static ENTRIES_DELETED: [JobEvent; 5] = [
     (3, Told::Submitted(&DELETES_THE_ENTRIES)),
     (3, Told::Selected),
     (3, Told::StartedMaking(1, &[])),
@@ -63,7 +63,7 @@ pub(crate) const ENTRIES_DELETED: [JobEvent; 5] = [
     (3, Told::Ended),
 ];
 
-pub(crate) const BOTH_DELETED: [JobEvent; 5] = [
+pub(crate) static BOTH_DELETED: [JobEvent; 5] = [
     (3, Told::Submitted(&DELETES_BOTH)),
     (3, Told::Selected),
     (3, Told::StartedMaking(1, &[])),
@@ -71,7 +71,7 @@ pub(crate) const BOTH_DELETED: [JobEvent; 5] = [
     (3, Told::Ended),
 ];
 
-pub(crate) const MADE_DELETED: [JobEvent; 5] = [
+pub(crate) static MADE_DELETED: [JobEvent; 5] = [
     (3, Told::Submitted(&DELETES_WHAT_WAS_MADE)),
     (3, Told::Selected),
     (3, Told::StartedMaking(1, &[])),
@@ -80,7 +80,7 @@ pub(crate) const MADE_DELETED: [JobEvent; 5] = [
 ];
 
 /// The second job is within its step.
-pub(crate) const RUNNING: [JobEvent; 9] = [
+pub(crate) static RUNNING: [JobEvent; 9] = [
     (1, Told::Submitted(&MAKES)),
     (1, Told::Selected),
     (1, Told::StartedMaking(1, &[(2, 0, 100)])),
@@ -92,7 +92,7 @@ pub(crate) const RUNNING: [JobEvent; 9] = [
     (2, Told::Checkpointed((b"C0000001", 20, 0, 600, 3))),
 ];
 
-pub(crate) const UNCATALOGED: [JobEvent; 10] = [
+pub(crate) static UNCATALOGED: [JobEvent; 10] = [
     (1, Told::Submitted(&MAKES)),
     (1, Told::Selected),
     (1, Told::StartedMaking(1, &[(2, 0, 100)])),
@@ -105,7 +105,7 @@ pub(crate) const UNCATALOGED: [JobEvent; 10] = [
     (2, Told::Failed(22, &[22, 3])),
 ];
 
-pub(crate) const NAMED_AGAIN: [JobEvent; 5] = [
+pub(crate) static NAMED_AGAIN: [JobEvent; 5] = [
     (3, Told::Submitted(&SAME_NAME)),
     (3, Told::Selected),
     (3, Told::StartedMaking(1, &[])),
@@ -113,14 +113,14 @@ pub(crate) const NAMED_AGAIN: [JobEvent; 5] = [
     (3, Told::Ended),
 ];
 
-pub(crate) const FIRST_FAILED: [JobEvent; 4] = [
+pub(crate) static FIRST_FAILED: [JobEvent; 4] = [
     (1, Told::Submitted(&TWO_STEPS)),
     (1, Told::Selected),
     (1, Told::StartedMaking(1, &[])),
     (1, Told::Failed(0, &[])),
 ];
 
-pub(crate) const SECOND_FAILED: [JobEvent; 6] = [
+pub(crate) static SECOND_FAILED: [JobEvent; 6] = [
     (1, Told::Submitted(&TWO_STEPS)),
     (1, Told::Selected),
     (1, Told::StartedMaking(1, &[])),

@@ -7,7 +7,7 @@ use std::test::Fail;
 /// In order; what follows is told. A run that is held goes on once it is released, on an initiator that the installation has. It is restarted
 /// at the same checkpoint at most three times, which keeps its entry and those before it; then at the start of its step, which deletes what the
 /// step made.
-const ROWS: [Row; 20] = [
+static ROWS: [Row; 20] = [
     (1, Told::Submitted(&WRITES), true, NONE),
     (1, Told::Selected, true, NONE),
     (1, Told::Restarted(1, false), false, NONE),

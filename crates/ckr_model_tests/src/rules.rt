@@ -24,7 +24,7 @@ const ASKED: DeferredCase = DeferredCase {
 type AutomaticRow = (Option<Rd>, bool, bool, bool, u8, bool, Verdict);
 
 /// What permits a restart; each rule alone; and each two of the rules that may hold together, of which the first one wins.
-const AUTOMATIC_CASES: [AutomaticRow; 27] = [
+static AUTOMATIC_CASES: [AutomaticRow; 27] = [
     (Some(R), true, true, false, 0, false, Checkpoint),
     (None, true, true, false, 0, false, Checkpoint),
     (Some(R), true, true, false, 2, false, Checkpoint),
@@ -56,7 +56,7 @@ const AUTOMATIC_CASES: [AutomaticRow; 27] = [
 
 #[test]
 fn automatic_restarts(rt: HostRuntime) {
-    for (rd, checkpoint, eligible, rewritten, restarts, refused, verdict) in AUTOMATIC_CASES {
+    for &(rd, checkpoint, eligible, rewritten, restarts, refused, verdict) in &AUTOMATIC_CASES {
         let case = AutoCase {
             rd,
             checkpoint,
@@ -69,7 +69,7 @@ fn automatic_restarts(rt: HostRuntime) {
     }
 }
 
-const DEFERRED_CASES: [(DeferredCase, Verdict); 10] = [
+static DEFERRED_CASES: [(DeferredCase, Verdict); 10] = [
     (ASKED, Verdict::Checkpoint),
     (
         DeferredCase {

@@ -25,7 +25,7 @@ type Row = (&'static [&'static [u8]], bool);
 
 /// The same deck; what doesn't count: RD, comments, the order and the layout of operands, a default of the status that is written, operands without
 /// effect; and what does, one thing in each deck.
-const ROWS: [Row; 23] = [
+static ROWS: [Row; 23] = [
     (&FIRST, true),
     (
         &[b"//B JOB RD=NC", PLAIN, INPUT, CARD, DELIMITER, OUTPUT],

@@ -187,7 +187,7 @@ type Case = (Kind, &'static [u8], &'static [(&'static [u8], Source)], End);
 
 const FULL: Code = Code::System(0xB37);
 
-const CASES: [Case; 6] = [
+static CASES: [Case; 6] = [
     (
         Kind::Copy,
         b"CHK=2,CANCEL=1",

@@ -20,7 +20,7 @@ const PLAIN: [&[u8]; 6] = [
 /// A deck, and the number of the rule by which it is refused; None where it is accepted.
 type Row = (&'static [&'static [u8]], Option<u8>);
 
-const ROWS: [Row; 12] = [
+static ROWS: [Row; 12] = [
     (&[b"//J JOB", b"//S1 EXEC PGM=IEFBR14"], None),
     (&[b"//J JOB", b"//S1 EXEC PGM=IEFBR14,RD=R"], None),
     (&[b"//J JOB", b"//S1 EXEC PGM=IEFBR14,RD=RNC"], None),

@@ -7,7 +7,7 @@ use ckr_points_tables::Tables;
 use std::test::Fail;
 
 /// A job of one step.
-const LINES: [&[u8]; 2] = [b"//J JOB", b"//S1 EXEC PGM=IEFBR14"];
+static LINES: [&[u8]; 2] = [b"//J JOB", b"//S1 EXEC PGM=IEFBR14"];
 
 /// The job is the only one, and is queued.
 fn is_queued_alone(tables: &Tables) -> bool {

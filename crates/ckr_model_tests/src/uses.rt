@@ -8,13 +8,13 @@ use ckr_uses::{Use, Uses, dispose, holds, library_name, uses_of};
 use std::alloc::Global;
 use std::test::Fail;
 
-const STATUSES: [Status; 4] = [Status::New, Status::Old, Status::Shr, Status::Mod];
+static STATUSES: [Status; 4] = [Status::New, Status::Old, Status::Shr, Status::Mod];
 
 /// A normal disposition of a data set, whether it is temporary and whether the step made it, and the action at a normal
 /// end, and at an abnormal one for which nothing was written.
 type DefaultRow = (Option<After>, bool, bool, After, After);
 
-const DEFAULT_ROWS: [DefaultRow; 18] = [
+static DEFAULT_ROWS: [DefaultRow; 18] = [
     (None, false, false, After::Keep, After::Keep),
     (None, false, true, After::Delete, After::Delete),
     (None, true, false, After::Delete, After::Delete),
@@ -99,9 +99,9 @@ fn what_is_not_written_goes_by_default(rt: HostRuntime) {
     }
 }
 
-const ABNORMALS: [After; 4] = [After::Delete, After::Keep, After::Catlg, After::Uncatlg];
+static ABNORMALS: [After; 4] = [After::Delete, After::Keep, After::Catlg, After::Uncatlg];
 
-const NORMALS: [After; 5] = [
+static NORMALS: [After; 5] = [
     After::Delete,
     After::Keep,
     After::Pass,
@@ -110,7 +110,7 @@ const NORMALS: [After; 5] = [
 ];
 
 /// Whether a data set is temporary, and whether the step made it.
-const KINDS: [(bool, bool); 4] = [(false, false), (false, true), (true, false), (true, true)];
+static KINDS: [(bool, bool); 4] = [(false, false), (false, true), (true, false), (true, true)];
 
 /// An abnormal disposition that is written holds at an abnormal end alone.
 fn goes_as_written(abnormal: After, normal: After, kind: &(bool, bool)) -> bool {
@@ -241,7 +241,7 @@ const RESTARTED: [&[u8]; 3] = [
 /// Two decks, and whether a run of the first holds one of the second.
 type HoldRow = (&'static [&'static [u8]], &'static [&'static [u8]], bool);
 
-const HOLD_ROWS: [HoldRow; 6] = [
+static HOLD_ROWS: [HoldRow; 6] = [
     (&OLD, &OLD, true),
     (&SHARED, &SHARED, false),
     (&OLD, &SHARED, true),
@@ -280,7 +280,7 @@ type UseRow = (
     &'static [(&'static [u8], bool)],
 );
 
-const USE_ROWS: [UseRow; 2] = [
+static USE_ROWS: [UseRow; 2] = [
     (
         7,
         &[

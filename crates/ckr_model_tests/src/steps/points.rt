@@ -15,7 +15,7 @@ use std::process::Abort;
 use std::test::Fail;
 
 /// COPY of three cards into `B`.
-const FILL: Case = (
+static FILL: Case = (
     Kind::Copy,
     b"",
     &[
@@ -26,7 +26,7 @@ const FILL: Case = (
 );
 
 /// COPY of `B` into `A`, with a checkpoint after two records.
-const COPY: Case = (
+static COPY: Case = (
     Kind::Copy,
     b"CHK=2",
     &[
