@@ -6,6 +6,6 @@ pub mod Calls
 pub mod Texts
 mod MadeStreams
 mod MadeDisks
-mod Counted
+mod Records
 mod MadeRuns
 mod MadeWords

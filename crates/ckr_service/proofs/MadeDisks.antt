@@ -1,5 +1,5 @@
 -- What the cards of `make` ask for, and how formatting by them ends.
-use Rattle.std.proofs.Common.{◌≡◌, ◌≤◌, ◌+◌, ℕ, Bool, true, false, cond, nat_lt, List, [], ◌++◌, Option, None, Some, Result, Ok, Err, refl, sym, ap, subst, ◌∙◌, append-nil, length, codes, ◌∷◌, arith}
+use Rattle.std.proofs.Common.{◌≡◌, ◌≤◌, ℕ, Bool, false, cond, nat_lt, List, [], ◌++◌, None, Some, Result, Ok, refl, sym, ap, subst, ◌∙◌, append-nil, length, codes, ◌∷◌, arith}
 use Rattle.std.proofs.lemmas.Bool.{false≢true}
 use Rattle.std.proofs.lemmas.List.{length-append}
 use Rattle.std.specs.Prelude.{MatchResult, IsOkAnd, IsErr}

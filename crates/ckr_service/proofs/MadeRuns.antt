@@ -1,12 +1,11 @@
 -- A run over a made stream, and what is told of it.
-use Rattle.std.proofs.Common.{◌≡◌, ◌≤◌, ◌<◌, ℕ, Bool, true, false, List, [], ◌++◌, length, Option, None, Some, Result, Ok, Err, refl, sym, ap, subst, ◌∙◌, arith}
+use Rattle.std.proofs.Common.{◌≡◌, ◌≤◌, ◌<◌, ℕ, suc, Bool, true, false, List, ◌++◌, length, Option, None, Some, Result, Ok, Err, refl, sym, ap, subst, ◌∙◌, arith}
 use Rattle.std.specs.Prelude.{IfSome}
 use Rattle.std.specs.Io.KnownBytes.{Consumes, Keeps}
 use Rattle.std.proofs.lemmas.Bool.{false≢true}
 use Rattle.std.proofs.lemmas.List.{length-append}
 use Rattle.ckr_console.specs.Answering.{Answering}
 use Rattle.ckr_outside.specs.Disk.{EachSince}
-use Rattle.ckr_outside.specs.Faults.{Rose}
 use Rattle.ckr_desk.specs.Model.Layout.{Layout}
 use Rattle.ckr_desk.specs.Soundness.{AllSound, Sound, desk_opening}
 use Rattle.ckr_desk_format.specs.declared.command.FormatOutcome.{FormatOutcome}
@@ -17,17 +16,17 @@ use Rattle.ckr_desk.specs.declared.error.OpenError.TheVariants as OpenErrors
 use Rattle.ckr_service.specs.declared.counts.Counts.{Counts}
 use Rattle.ckr_service.specs.declared.stop.Stop.{Stop}
 use Rattle.ckr_service.specs.declared.stop.Stop.TheVariants as Stops
-use Rattle.ckr_service.specs.CallEnds.{EndsSo, Ended, HasRun, NotOpened, RunEnd, formatting_status, is_whole, opening_status, serving_status, status_of}
+use Rattle.ckr_service.specs.CallEnds.{EndsSo, Ended, NotOpened, RunEnd, formatting_status, is_whole, opening_status, serving_status, status_of}
 use Rattle.ckr_service.specs.Counts.{counts_behind}
 use Rattle.ckr_service.specs.Feeds.{IsCounted, faults_of}
 use Rattle.ckr_service.specs.MadeDisk.{FormatsSo, made_layout}
 use Rattle.ckr_service.specs.MadeStream.{made_size, made_stream}
-use Rattle.ckr_service.specs.Makes.{HasMade, HasRunOver, RunsOver, Served, Tells, TellsCounts, TellsRun, TooSmall, Unformatted}
+use Rattle.ckr_service.specs.Makes.{FailsSo, HasMade, HasRunOver, MadeEnd, MadeSo, RunsOver, Served, TellsCounts, TellsRun, TooSmall, Unformatted}
 use Rattle.ckr_service.specs.Staff.{StaffedDesk, staffed_with}
 use Rattle.ckr_service.specs.Stream.{requests_of}
 use Rattle.ckr_service.proofs.Calls.Ends.{Keeps-refl, all_sound}
 use Rattle.ckr_service.proofs.MadeDisks.{all_read, not_rose}
-use Rattle.ckr_service.proofs.Streams.Behind.{not_whole}
+use Rattle.ckr_service.proofs.Streams.Totals.{not_whole}
 
 not_opened_whole : (error : OpenError) → is_whole (opening_status error) ≡ true → ⊥
 not_opened_whole OpenErrors.NoMemory whole = false≢true whole
@@ -157,6 +156,7 @@ module _ {D : Type 0} (told : Type 0) (content : D → List ℕ) (may_leave : D 
             formats = so.1;
             is_formatted = so.0;
             same_size = same;
+            fresh = λ tells. (so.0.empty tells).records;
             opens = opens;
             runs = subst (λ (s : List ℕ). RunsOver told content may_leave moment left_since size faults s operators formatted new status sink sink' written written') is runs;
             safe = λ tells. safe (opens tells);
@@ -164,3 +164,24 @@ module _ {D : Type 0} (told : Type 0) (content : D → List ℕ) (may_leave : D 
           },
         );
       }
+
+  -- behind status 0 it is sound
+  pub made_sound : Made' → told → status ≡ 0 → AllSound told may_leave size new
+  made_sound made tells zero = by_end made.end made.so
+    where
+      never : (n : ℕ) → status ≡ suc n → ⊥
+      never n is = (let same : suc n ≡ 0 = sym is ∙ zero in omega (arith, same))
+
+      by_outcome : (outcome : FormatOutcome) → status ≡ formatting_status outcome → FailsSo told content may_leave moment left_since size faults outcome old new → ⊥
+      by_outcome Outcomes.DiskFailed is so = never 5 is
+      by_outcome Outcomes.NoMemory is so = never 6 is
+      by_outcome Outcomes.Formatted is so = so
+      by_outcome Outcomes.Refused is so = so
+      by_outcome Outcomes.SourceFailed is so = so
+      by_outcome Outcomes.SinkFailed is so = so
+      by_outcome Outcomes.TooLong is so = so
+
+      by_end : (end : MadeEnd D) → MadeSo told content may_leave moment left_since size faults operators jobs end old new status sink sink' written written' → AllSound told may_leave size new
+      by_end TooSmall so = absurd (never 7 so.1)
+      by_end (Unformatted outcome) so = absurd (by_outcome outcome so.1 so.2)
+      by_end (Served formatted) so = so.1.sound tells

@@ -4,4 +4,4 @@ pub mod End
 pub mod Steps
 pub mod Pieces
 pub mod Texts
-pub mod Behind
+pub mod Totals

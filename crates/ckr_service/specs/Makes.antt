@@ -1,5 +1,5 @@
 -- How `make` ends.
-use Rattle.std.specs.Prelude.{◌≡◌, ◌≤◌, ◌<◌, ◌⊎◌, ℕ, Bool, true, false, List, Option, None, Some, Result, Ok, Err}
+use Rattle.std.specs.Prelude.{◌≡◌, ◌≤◌, ◌<◌, ℕ, Bool, List, [], Option, None, Some, Result, Ok, Err}
 use Rattle.std.specs.Io.KnownBytes.{Appends, Keeps}
 use Rattle.ckr_console.specs.Answering.{Answering}
 use Rattle.ckr_outside.specs.Disk.{EachSince}
@@ -20,7 +20,7 @@ use Rattle.ckr_service.specs.Counts.{counts_behind, made_text}
 use Rattle.ckr_service.specs.Feeds.{faults_of}
 use Rattle.ckr_service.specs.MadeDisk.{FormatsMade, made_layout}
 use Rattle.ckr_service.specs.MadeStream.{made_size, made_stream}
-use Rattle.ckr_service.specs.Staff.{StaffedDesk, staffed_with}
+use Rattle.ckr_service.specs.Staff.{staffed_with}
 use Rattle.ckr_service.specs.Stops.{HasEverywhere}
 use Rattle.ckr_service.specs.Stream.{requests_of}
 
@@ -86,12 +86,13 @@ module _ {D : Type 0} (told : Type 0) (content : D → List ℕ) (may_leave : D 
         (λ counts. AllSound told may_leave size old → (state : RoomyDesk) → desk_opening (content old) (size old) ≡ Ok state → counts ≡ counts_behind (staffed_with operators state) (requests_of stream))
         run.end status before now written written'
 
-  -- The disk was formatted for the made stream, and then that was served on it. Where the disk tells what it holds, every image of it is sound behind the
-  -- formatting, so is each image that a stop leaves from then on, and so is every image in the end.
+  -- The disk was formatted for the made stream, and then that was served on it. Where the disk tells what it holds, it has no events behind the
+  -- formatting and every image of it is sound, so is each image that a stop leaves from then on, and so is every image in the end.
   pub record ServesMade (operators : List Answering) (jobs : ℕ) (old formatted new : D) (status before now : ℕ) (written written' : Option (List ℕ)) : Type 0 where
     pub formats : FormatsMade told content may_leave moment left_since size faults old formatted
     pub is_formatted : IsFormatted told (content formatted) (may_leave formatted) (size formatted) made_layout
     pub same_size : size formatted ≡ size old
+    pub fresh : told → event_records made_layout (content formatted) ≡ []
     pub opens : told → AllSound told may_leave size formatted
     pub runs : RunsOver (made_stream jobs) operators formatted new status before now written written'
     pub safe : told → EachSince moment left_since formatted new (Sound (size formatted))

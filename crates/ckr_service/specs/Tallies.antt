@@ -1,5 +1,5 @@
 -- What is counted of the replies to a stream.
-use Rattle.std.specs.Prelude.{ℕ, List, [], ◌∷◌}
+use Rattle.std.specs.Prelude.{List, [], ◌∷◌}
 use Rattle.ckr_outside.specs.Faults.{one_more}
 use Rattle.ckr_desk.specs.Model.How.TheVariants.{Completed}
 use Rattle.ckr_desk.specs.Model.Reply.{Reply}

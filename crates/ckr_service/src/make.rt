@@ -85,6 +85,7 @@ pub fn make<K: Sink, D: Disk, O: Operator>(
     requires few { jobs ≤ 1000 }
     ensures made { HasMade D.told D.content D.may_leave D.moment D.left_since D.size D.faults (map O.answering operators.items) jobs disk result.disk result.status
         (K.faults sink.old) (K.faults sink.new) (K.written sink.old) (K.written sink.new) }
+    ensures sound { D.told → result.status ≡ 0 → AllSound D.told D.may_leave D.size result.disk }
     ensures size { D.size result.disk ≡ D.size disk }
 {
     if disk.size() < MADE_SIZE {

@@ -1,5 +1,5 @@
 //! A run: the disk is opened, and a stream is served on it.
-ghost use Rattle.std.specs.Prelude.{◌≡◌, IfSome, List, Ok, map, true};
+ghost use Rattle.std.specs.Prelude.{◌≡◌, IfSome, Ok, map, true};
 ghost use Rattle.ckr_desk.specs.FirstSync.{FromSync, IsLeft};
 ghost use Rattle.ckr_desk.specs.Model.OpenImages.{event_records};
 ghost use Rattle.ckr_desk.specs.Soundness.{AllSound, HasKept, Sound, desk_opening};

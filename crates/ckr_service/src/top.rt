@@ -123,6 +123,9 @@ pub fn batch_desk<S: Source, K: Sink, D: Disk, O: Operator>(
     ensures carries_out { command_of (map string_bytes words.now) ≡ Some Command.Format → CompletesFormat (D.size disk) result.status
         (faults_of (S.faults source.old) (S.faults source.new) (K.faults sink.old) (K.faults sink.new) (D.faults disk) (D.faults result.disk)) (S.left source.old) }
 
+    // Of a stream that is made: behind status 0 every image of a disk that tells what it holds is sound, so that it may be run.
+    ensures made_sound { (jobs : ℕ) → command_of (map string_bytes words.now) ≡ Some (Command.Make jobs) → D.told → result.status ≡ 0 → AllSound D.told D.may_leave D.size result.disk }
+
     // Whatever the words ask for, the disk that is handed back has its size.
     ensures size { D.size result.disk ≡ D.size disk }
 

@@ -4,7 +4,7 @@ use Rattle.ckr_desk.specs.Model.Listing.{listed}
 use Rattle.ckr_desk.specs.Model.Listed.{Listed}
 use Rattle.ckr_desk.specs.Soundness.{state_of}
 use Rattle.ckr_service.specs.Counts.{records_behind}
-use Rattle.ckr_service.proofs.Counted.{records_all, records_more}
+use Rattle.ckr_service.proofs.Records.{records_all, records_more}
 use Rattle.ckr_service.proofs.counts.records_in.Goals as goal
 
 pub loop-line-preserved : goal.loop-line-preserved

@@ -1,4 +1,4 @@
-use Rattle.std.proofs.Common.{ℕ, List, ◌++◌, codes, Result, Ok, Err, OnOk, ◌≡◌}
+use Rattle.std.proofs.Common.{◌++◌, codes}
 use Rattle.ckr_service.specs.MadeStream.{line, numbered}
 use Rattle.ckr_service.proofs.MadeStreams.{pushed_behind, pushed_last}
 use Rattle.ckr_service.proofs.made_stream.push_tail.Goals as goal

@@ -1,9 +1,9 @@
-use Rattle.std.proofs.Common.{◌≡◌, ◌≤◌, ◌*◌, ℕ, List, length, map, refl, sym, subst, arith}
+use Rattle.std.proofs.Common.{◌≤◌, ◌*◌, ℕ, List, length, map, refl, sym, subst, ◌∙◌, arith}
 use Rattle.ckr_desk_format.specs.declared.command.FormatOutcome.{FormatOutcome}
 use Rattle.ckr_service.specs.MadeDisk.{FormatsSo}
 use Rattle.ckr_service.specs.MadeStream.{made_size}
 use Rattle.ckr_service.proofs.Calls.Ends.{Keeps-refl}
-use Rattle.ckr_service.proofs.MadeRuns.{made_and_served, no_memory, not_formatted}
+use Rattle.ckr_service.proofs.MadeRuns.{made_and_served, made_sound, no_memory, not_formatted}
 use Rattle.ckr_service.proofs.MadeStreams.{stream_short}
 use Rattle.ckr_service.proofs.make.make.Goals as goal
 
@@ -18,21 +18,33 @@ serve_bytes-requires-clause-few g c κs within =
     (let short : length c.in-Ok.bytes.items ≤ 340 * c.args.jobs = subst (λ (l : List ℕ). length l ≤ 340 * c.args.jobs) (sym c.in-Ok.ensures) (stream_short c.args.jobs) in
     omega (arith, short, c.requires.few))
 
-pub returns-in-Formatted-clause-made : goal.returns-in-Formatted-clause-made
-returns-in-Formatted-clause-made g c =
+pub returns-in-Formatted : goal.returns-in-Formatted
+returns-in-Formatted g c =
     let d = g.D.Disk in
+    let operators = map g.O.Operator.answering c.args.operators.items in
+    let end = c.serve_bytes.result.disk in
+    let status = c.serve_bytes.result.status in
     let enough : made_size ≤ d.size c.args.disk = omega (arith, c.if-size-lt-MADE_SIZE.false, c.size.ensures) in
-    made_and_served d.told d.content d.may_leave d.moment d.left_since d.size d.faults (map g.O.Operator.answering c.args.operators.items) c.args.jobs c.args.disk c.serve_bytes.result.disk c.serve_bytes.result.status _ _ _ _
-    c.format_made.new.disk c.in-Ok.bytes.items enough c.in-Ok.ensures
+    let made = made_and_served d.told d.content d.may_leave d.moment d.left_since d.size d.faults operators c.args.jobs c.args.disk end status _ _ _ _ c.format_made.new.disk c.in-Ok.bytes.items enough c.in-Ok.ensures
     (subst (λ (o : FormatOutcome). FormatsSo d.told d.content d.may_leave d.moment d.left_since d.size d.faults o c.args.disk c.format_made.new.disk) c.in-Formatted.is c.format_made.ensures.so)
-    c.format_made.ensures.size c.serve_bytes.ensures.runs c.serve_bytes.ensures.safe c.serve_bytes.ensures.sound
+    c.format_made.ensures.size c.serve_bytes.ensures.runs c.serve_bytes.ensures.safe c.serve_bytes.ensures.sound in
+    record {
+      made = made;
+      sound = made_sound d.told d.content d.may_leave d.moment d.left_since d.size d.faults operators c.args.jobs c.args.disk end status _ _ _ _ made;
+      size = c.serve_bytes.ensures.size ∙ c.format_made.ensures.size;
+    }
 
 pub returns-in_default : goal.returns-in_default
 returns-in_default g c =
     let d = g.D.Disk in
+    let operators = map g.O.Operator.answering c.args.operators.items in
+    let end = c.format_made.new.disk in
+    let status = c.formatting_status.result in
     let enough : made_size ≤ d.size c.args.disk = omega (arith, c.if-size-lt-MADE_SIZE.false, c.size.ensures) in
+    let made = not_formatted d.told d.content d.may_leave d.moment d.left_since d.size d.faults operators c.args.jobs c.args.disk end status _ _ _ _ c.format_made.result c.in_default.not-Formatted enough c.formatting_status.ensures
+    c.format_made.ensures.so (Keeps-refl _) in
     record {
-      made = not_formatted d.told d.content d.may_leave d.moment d.left_since d.size d.faults (map g.O.Operator.answering c.args.operators.items) c.args.jobs c.args.disk c.format_made.new.disk c.formatting_status.result _ _ _ _
-          c.format_made.result c.in_default.not-Formatted enough c.formatting_status.ensures c.format_made.ensures.so (Keeps-refl _);
+      made = made;
+      sound = made_sound d.told d.content d.may_leave d.moment d.left_since d.size d.faults operators c.args.jobs c.args.disk end status _ _ _ _ made;
       size = c.format_made.ensures.size;
     }

@@ -12,7 +12,7 @@ use Rattle.ckr_service.proofs.Calls.Ends.{run_ended, run_not_opened}
 use Rattle.ckr_service.proofs.Calls.OpenStops.{all_sound_after, each_served, has_served, sound_from, sound_left}
 use Rattle.ckr_service.proofs.Service.Ends.{serving_so, some_came}
 use Rattle.ckr_service.proofs.Service.Staff.{staffed-opened}
-use Rattle.ckr_service.proofs.Streams.Behind.{counted_from}
+use Rattle.ckr_service.proofs.Streams.Totals.{counted_from}
 use Rattle.ckr_service.proofs.run.run.Goals as goal
 
 pub returns-in-Ok : goal.returns-in-Ok

@@ -1,6 +1,6 @@
 use Rattle.ckr_service.specs.Service.{seen}
 use Rattle.ckr_service.proofs.Streams.Feeds.{serving_on, serving_stopped}
-use Rattle.ckr_service.proofs.Streams.Behind.{behind_on}
+use Rattle.ckr_service.proofs.Streams.Totals.{behind_on}
 use Rattle.ckr_service.proofs.stream.serve_on.Goals as goal
 
 pub returns-in_err-feed_all-clause-served : goal.returns-in_err-feed_all-clause-served
