@@ -68,7 +68,8 @@ module _ (told trusted : Type 0) (opening : Result RoomyDesk OpenError) (operato
 -- what is told of such counts is told of others
 pub told_of : (One Other : Counts → Type 0) (outcome : Result Bool Stop) (sink sink' : ℕ) (written written' : Option (List ℕ)) → ((counts : Counts) → One counts → Other counts) → TellsCounts One outcome sink sink' written written'
     → TellsCounts Other outcome sink sink' written written'
-told_of One Other (Ok refused) sink sink' written written' so tells = (tells.0, so tells.0 tells.1, tells.2)
+told_of One Other (Ok false) sink sink' written written' so tells = (tells.0, so tells.0 tells.1, tells.2)
+told_of One Other (Ok true) sink sink' written written' so tells = absurd tells
 told_of One Other (Err Stops.Sink) sink sink' written written' so tells = (tells.0, so tells.0 tells.1, tells.2, tells.3)
 told_of One Other (Err Stops.Memory) sink sink' written written' so tells = tells
 told_of One Other (Err Stops.Source) sink sink' written written' so tells = absurd tells

@@ -1,5 +1,5 @@
 -- How `make` ends.
-use Rattle.std.specs.Prelude.{◌≡◌, ◌≤◌, ◌<◌, ℕ, Bool, List, [], Option, None, Some, Result, Ok, Err}
+use Rattle.std.specs.Prelude.{◌≡◌, ◌≤◌, ◌<◌, ℕ, Bool, true, false, List, [], Option, None, Some, Result, Ok, Err}
 use Rattle.std.specs.Io.KnownBytes.{Appends, Keeps}
 use Rattle.ckr_console.specs.Answering.{Answering}
 use Rattle.ckr_outside.specs.Disk.{EachSince}
@@ -26,9 +26,10 @@ use Rattle.ckr_service.specs.Stream.{requests_of}
 
 -- ---- the line
 
--- The line is written of such counts; or the sink failed, and a front of it is; or there was no memory, and nothing is.
+-- The line is written of such counts; or the sink failed, and a front of it is; or there was no memory, and nothing is. Nothing is refused here.
 abbrev pub TellsCounts : (Counts → Type 0) → Result Bool Stop → ℕ → ℕ → Option (List ℕ) → Option (List ℕ) → Type 0
-TellsCounts Such (Ok refused) before now old new = (counts : Counts) × Such counts × Appends old new (made_text counts)
+TellsCounts Such (Ok false) before now old new = (counts : Counts) × Such counts × Appends old new (made_text counts)
+TellsCounts Such (Ok true) before now old new = ⊥
 TellsCounts Such (Err Stops.Sink) before now old new = (counts : Counts) × Such counts × Rose before now × AppendsFront old new (made_text counts)
 TellsCounts Such (Err Stops.Memory) before now old new = Keeps old new
 TellsCounts Such (Err _) before now old new = ⊥

@@ -1,5 +1,5 @@
 -- The commands.
-use Rattle.std.specs.Prelude.{ℕ, ◌≤◌, ◌==◌, ◌&&◌, Bool, nat_lt, nat_le, if◌then◌else◌, List, codes, bytes_eq, Option, None, Some}
+use Rattle.std.specs.Prelude.{ℕ, ◌≤◌, ◌&&◌, Bool, nat_lt, nat_le, if◌then◌else◌, List, codes, bytes_eq, Option, None, Some}
 use Rattle.std.specs.List.{before_first, after_first}
 use Rattle.ckr_base.specs.CodeText.{code_of}
 use Rattle.ckr_base.specs.Grammar.{is_ds_name}

@@ -1,5 +1,5 @@
 -- The end of a stream.
-use Rattle.std.proofs.Common.{◌≡◌, ◌==◌, ℕ, true, false, ◌||◌, if◌then◌else◌, List, [], ◌∷◌, ◌++◌, length, map, Option, Result, Ok, Err, OnOk, sym, ap, subst, ◌∙◌, append-nil, arith}
+use Rattle.std.proofs.Common.{◌≡◌, ◌==◌, ℕ, true, false, ◌||◌, if◌then◌else◌, List, [], ◌∷◌, ◌++◌, length, map, Option, sym, ap, subst, ◌∙◌, append-nil, arith}
 use Rattle.std.specs.List.{list_any}
 use Rattle.std.specs.Str.Lines.{lines, lines_of_parts, strip_carriage_return}
 use Rattle.std.specs.Io.KnownBytes.{Appends}
@@ -16,7 +16,7 @@ use Rattle.ckr_service.specs.Stream.{is_line_end, requests_of}
 use Rattle.ckr_service.specs.Flows.{StreamProgress, Finishes, FinishBreaks, last_lines, end_requests, told_so_far}
 use Rattle.ckr_service.proofs.Streams.Requests.{requests_of-lines}
 use Rattle.ckr_service.proofs.Service.Halts.{stops_behind}
-use Rattle.ckr_service.proofs.Service.Order.{Serves-from, Serves-append}
+use Rattle.ckr_service.proofs.Service.Order.{Serves-from}
 use Rattle.ckr_service.proofs.Streams.Pieces.{lines_behind}
 
 module _ {D O : Type 0} (content : D → List ℕ) where
