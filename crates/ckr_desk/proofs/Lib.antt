@@ -7,3 +7,4 @@ pub mod Turns
 pub mod Checkpoints
 pub mod Trust
 pub mod Continuations
+pub mod MachineRooms

@@ -1,6 +1,7 @@
 pub mod State
 pub mod Calls
 pub mod Requests
+pub mod MachineRoom
 pub mod Turn
 pub mod Errors
 pub mod Entries

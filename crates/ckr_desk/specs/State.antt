@@ -1,4 +1,4 @@
--- The desk on its disk: the open disk, the jobs in memory, and the operator.
+-- The desk on its disk: the open disk, the jobs in memory, and the machine room.
 use Rattle.std.specs.Prelude.{◌≡◌, ℕ, ◌+◌, List, length, Option, None}
 use Rattle.ckr_book.specs.Book.{room_of}
 use Rattle.ckr_console.specs.Answering.{Answering}
@@ -9,15 +9,25 @@ use Rattle.ckr_desk_memory.specs.OwnSteps.{AreLeft, HoldTheirOwn}
 use Rattle.ckr_desk_memory.specs.View.{JobsView}
 use Rattle.ckr_points.specs.Rows.{TablesModel}
 use Rattle.ckr_desk_store.specs.State.{StoreView}
+use Rattle.ckr_queue.specs.Mounts.{MountTable, no_mounts}
 use Rattle.ckr_desk_turn.specs.declared.failed_run.FailedRun.{FailedRun}
 use Rattle.ckr_desk_turn.specs.Desk.{DeskModel}
 use Rattle.ckr_desk_turn.specs.Queue.{AreNumbered}
 use Rattle.ckr_volumes.specs.declared.layout.Layout.{Layout}
 
+-- what the operator in office answers, or None where nobody is in office, and the volumes on the units
+pub record MachineRoomView : Type 0 where
+  pub operator : Option Answering
+  pub mounts : MountTable
+
+-- at the opening of a desk: this operator is in office, and all units are empty
+abbrev pub room_at_first : Layout → Option Answering → MachineRoomView
+room_at_first layout operator = record { operator = operator; mounts = no_mounts layout.units }
+
 pub record DeskView (D : Type 0) : Type 0 where
   pub store : StoreView D
   pub jobs : JobsView
-  pub operator : Option Answering
+  pub machine_room : MachineRoomView
 
 -- ---- what a desk has
 
@@ -39,7 +49,11 @@ fault_of desk = desk.store.fault
 
 -- what the operator in office answers, or None where nobody is in office
 abbrev pub operator_of : {D : Type 0} → DeskView D → Option Answering
-operator_of desk = desk.operator
+operator_of desk = desk.machine_room.operator
+
+-- the operator, and the volumes on the units
+abbrev pub machine_room_of : {D : Type 0} → DeskView D → MachineRoomView
+machine_room_of desk = desk.machine_room
 
 -- it hasn't stopped
 abbrev pub IsOpen : {D : Type 0} → DeskView D → Type 0

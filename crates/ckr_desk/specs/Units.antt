@@ -19,16 +19,14 @@ use Rattle.ckr_steps.specs.Places.{GoesOn, ShowsWithin, IsStepPlace}
 use Rattle.ckr_steps.specs.StepUnit.{HasWorked}
 use Rattle.ckr_steps.specs.Writes.{ChangesKeeping, StemsKeeping}
 use Rattle.ckr_desk_store.specs.OpenImages.{event_records, Opens}
-use Rattle.ckr_desk_turn.specs.Invariant.{IsTurnOf}
+use Rattle.ckr_desk_turn.specs.Turns.{IsMountedTurnOf, MountedTurn, plan_for}
 use Rattle.ckr_desk_turn.specs.declared.plan.Plan.{Plan}
 use Rattle.ckr_desk_turn.specs.declared.plan.Plan.TheVariants.{Tell, Work, Pass, Take, Ask, Wait}
 use Rattle.ckr_desk_turn.specs.declared.reply.Chkpt.{Chkpt}
 use Rattle.ckr_desk_turn.specs.declared.reply.Chkpt.TheVariants.{Suppressed}
 use Rattle.ckr_desk_turn.specs.declared.reply.Reply.{Reply}
 use Rattle.ckr_desk_turn.specs.declared.reply.Reply.TheVariants.{Checkpointed}
-use Rattle.ckr_desk_turn.specs.declared.reply.Turn.{Turn}
 use Rattle.ckr_desk_turn.specs.Inquiries.{decide}
-use Rattle.ckr_desk_turn.specs.Plans.{plan_of}
 use Rattle.ckr_volumes.specs.declared.layout.Layout.{Layout}
 use Rattle.ckr_desk.specs.declared.error.DeskError.{DeskError}
 use Rattle.ckr_desk.specs.declared.error.DeskError.TheVariants.{DiskFault, NoMemory}
@@ -151,15 +149,15 @@ TakesBy reply event asks NoMemory = (needs_some event ≡ true) ⊎ ((asks ≡ t
 TakesBy reply event asks _ = Unit {0}
 
 -- the desk is trusted, and this is what the turn comes to, before the operator is asked
-pub record IsPlanned {D : Type 0} (told : Type 0) (content : D → List ℕ) (may_leave : D → List ℕ → Type 0) (desk : DeskView D) (turn : Turn) (plan : Plan) : Type 0 where
+pub record IsPlanned {D : Type 0} (told : Type 0) (content : D → List ℕ) (may_leave : D → List ℕ → Type 0) (desk : DeskView D) (turn : MountedTurn) (plan : Plan) : Type 0 where
   pub trusted : IsTrusted told content may_leave desk
-  pub its : IsTurnOf desk.store.layout turn
-  pub planned : plan_of desk.store.layout (jobs_of desk.jobs) turn ≡ plan
+  pub its : IsMountedTurnOf desk.store.layout turn
+  pub planned : plan_for desk.store.layout (jobs_of desk.jobs) turn ≡ plan
 
 -- What a turn has come to on a trusted disk with the operator's answer: the reply, the desk behind it, why it wasn't done, and what a stop within it
 -- leaves.
 pub record HasTurned {D : Type 0} (told : Type 0) (content : D → List ℕ) (may_leave : D → List ℕ → Type 0) (moment : D → ℕ) (left_since : D → ℕ → List ℕ → Type 0) (size : D → ℕ)
-    (turn : Turn) (answer : Answer) (old new : DeskView D) (result : Result Reply DeskError) : Type 0 where
+    (turn : MountedTurn) (answer : Answer) (old new : DeskView D) (result : Result Reply DeskError) : Type 0 where
   pub reply : IfOk result (λ reply. reply ≡ reply_of (state_of content old) turn answer)
   pub fits : OnOk result (turn_fits (state_of content old) turn answer ≡ true)
   pub after : OnOk result (state_of content new ≡ behind_turn (state_of content old) turn answer)

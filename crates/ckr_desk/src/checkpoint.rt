@@ -5,7 +5,7 @@ ghost use Rattle.ckr_console.specs.declared.question.Answer.{Answer as AnswerOf}
 ghost use Rattle.ckr_desk_memory.specs.Plans.{HasDue, IsToldReply};
 ghost use Rattle.ckr_outside.specs.Disk.{EachSince};
 ghost use Rattle.ckr_desk_turn.specs.declared.plan.Plan.TheVariants as Plans;
-ghost use Rattle.ckr_desk_turn.specs.declared.reply.Turn.{Turn as TurnOf};
+ghost use Rattle.ckr_desk_turn.specs.Turns.{MountedTurn};
 ghost use Rattle.ckr_desk.specs.Calls.{HasSameJobs};
 ghost use Rattle.ckr_desk.specs.Checkpoint.{HasWrittenEntry, IsAttempt, IsAttemptWritten, IsLeftByEntry, IsMade, NotAttempted};
 ghost use Rattle.ckr_desk.specs.NoChange.{HasHalted, IsOfDisk, StaysBy};
@@ -45,7 +45,7 @@ impl<D: Disk, O: Operator> Desk<D, O> {
         ensures attempt { IfOk result (IsAttempt run self.new) }
         ensures jobs { HasSameJobs self.old self.new }
         ensures store { self.new.store ≡ self.old.store }
-        ensures operator { self.new.operator ≡ self.old.operator }
+        ensures machine_room { self.new.machine_room ≡ self.old.machine_room }
         ensures cause { IfErr result (NotAttempted run self.old self.new) }
     {
         let _layout = self.store.layout();
@@ -68,7 +68,7 @@ impl<D: Disk, O: Operator> Desk<D, O> {
         ensures written { OnOk result (HasWrittenEntry D.told D.content D.may_leave D.moment D.left_since made.now self.old self.new) }
         ensures left { EachSince D.moment D.left_since self.old.store.disk self.new.store.disk (IsLeftByEntry D.content D.may_leave D.size made.now self.old) }
         ensures jobs { self.new.jobs ≡ self.old.jobs }
-        ensures operator { self.new.operator ≡ self.old.operator }
+        ensures machine_room { self.new.machine_room ≡ self.old.machine_room }
         ensures layout { self.new.store.layout ≡ self.old.store.layout }
         ensures size { D.size self.new.store.disk ≡ D.size self.old.store.disk }
         ensures faults { D.faults self.old.store.disk ≤ D.faults self.new.store.disk }
@@ -95,9 +95,9 @@ impl<D: Disk, O: Operator> Desk<D, O> {
     ) -> Result<Reply, DeskError>
         requires is_open { self.old.store.fault ≡ None }
         requires attempt { IsAttemptWritten run self.old made ready reply }
-        ensures turned { (turn : TurnOf) (answer : AnswerOf) → IsPlanned D.told D.content D.may_leave self.old turn (Plans.Take run) → HasTurned D.told D.content D.may_leave D.moment D.left_since D.size turn answer self.old self.new result }
+        ensures turned { (turn : MountedTurn) (answer : AnswerOf) → IsPlanned D.told D.content D.may_leave self.old turn (Plans.Take run) → HasTurned D.told D.content D.may_leave D.moment D.left_since D.size turn answer self.old self.new result }
         ensures spelled { IfOk result IsToldReply }
-        ensures operator { self.new.operator ≡ self.old.operator }
+        ensures machine_room { self.new.machine_room ≡ self.old.machine_room }
         ensures is_open { OnOk result (self.new.store.fault ≡ None) }
         ensures layout { self.new.store.layout ≡ self.old.store.layout }
         ensures size { D.size self.new.store.disk ≡ D.size self.old.store.disk }
@@ -117,9 +117,9 @@ impl<D: Disk, O: Operator> Desk<D, O> {
     pub(crate) fn checkpoint(&mut self, run: u32) -> Result<Reply, DeskError>
         requires is_open { self.old.store.fault ≡ None }
         requires due { HasDue self.old.jobs (Plans.Take run) }
-        ensures turned { (turn : TurnOf) (answer : AnswerOf) → IsPlanned D.told D.content D.may_leave self.old turn (Plans.Take run) → HasTurned D.told D.content D.may_leave D.moment D.left_since D.size turn answer self.old self.new result }
+        ensures turned { (turn : MountedTurn) (answer : AnswerOf) → IsPlanned D.told D.content D.may_leave self.old turn (Plans.Take run) → HasTurned D.told D.content D.may_leave D.moment D.left_since D.size turn answer self.old self.new result }
         ensures spelled { IfOk result IsToldReply }
-        ensures operator { self.new.operator ≡ self.old.operator }
+        ensures machine_room { self.new.machine_room ≡ self.old.machine_room }
         ensures is_open { OnOk result (self.new.store.fault ≡ None) }
         ensures layout { self.new.store.layout ≡ self.old.store.layout }
         ensures size { D.size self.new.store.disk ≡ D.size self.old.store.disk }

@@ -25,7 +25,7 @@ ghost use Rattle.ckr_desk.specs.NoChange.{HaveStayed, IsUnchanged, StaysBy};
 ghost use Rattle.ckr_desk.specs.Records.{ReadingCause};
 ghost use Rattle.ckr_desk.specs.Soundness.{state_of};
 ghost use Rattle.ckr_desk.specs.Units.{IsPlanned};
-ghost use Rattle.ckr_desk_turn.specs.declared.reply.Turn.{Turn as TurnOf};
+ghost use Rattle.ckr_desk_turn.specs.Turns.{MountedTurn};
 
 use crate::entry_reads::{ends_within, kind_number, program_of, put, records_of};
 use crate::kept_point::is_as_kept;
@@ -331,9 +331,9 @@ impl<D: Disk, O: Operator> Desk<D, O> {
         ensures knows { IfOk result (PlanKnows self.new.jobs.tables.desk self.new.jobs.points) }
 
         // On a trusted disk the plan stays, and the point is that of the entry at which the run goes on.
-        ensures trusted { (turn : TurnOf) → IsPlanned D.told D.content D.may_leave self.old turn plan → IfOk result (GoesOnThere (state_of D.content self.old).desk self.new.jobs.points plan) }
+        ensures trusted { (turn : MountedTurn) → IsPlanned D.told D.content D.may_leave self.old turn plan → IfOk result (GoesOnThere (state_of D.content self.old).desk self.new.jobs.points plan) }
         ensures jobs { HaveStayed self.old.jobs self.new.jobs }
-        ensures operator { self.new.operator ≡ self.old.operator }
+        ensures machine_room { self.new.machine_room ≡ self.old.machine_room }
         ensures is_open { OnOk result (self.new.store.fault ≡ None) }
         ensures layout { self.new.store.layout ≡ self.old.store.layout }
         ensures room { room_of self.new.store.book ≡ room_of self.old.store.book }

@@ -1,4 +1,4 @@
-//! The jobs in memory with their disk, and the operator.
+//! The jobs in memory with their disk, and the machine room.
 ghost use Rattle.std.specs.Prelude.{◌≡◌, ◌≤◌, ◌++◌, ◌∷◌, [], ℕ, List, IfErr, IfSome, OnOk, Err, None, Some, length, map, true};
 ghost use Rattle.std.specs.Option.{option_map};
 ghost use Rattle.std.specs.Rc.{rc_value};
@@ -16,12 +16,13 @@ ghost use Rattle.ckr_points_tables.specs.View.{line_of, seen_by};
 ghost use Rattle.ckr_desk.specs.Calls.{HasGoneOn, IsLeftBy, NotEntered, NotKept, may_follow};
 ghost use Rattle.ckr_desk.specs.Preparation.{IsReady};
 ghost use Rattle.ckr_desk.specs.Soundness.{IsTrusted, KeepsWithin};
-ghost use Rattle.ckr_desk.specs.State.{IsOpen, disk_of, layout_of, tables_in_memory};
+ghost use Rattle.ckr_desk.specs.State.{IsOpen, disk_of, layout_of, machine_room_of, tables_in_memory};
 
 use crate::DeskError;
 use crate::event_bytes::EventBytes;
+use crate::machine_room::MachineRoom;
 use crate::preparation::Ready;
-use ckr_console::{Console, Operator};
+use ckr_console::Operator;
 use ckr_desk_memory::{Jobs, shared_deck};
 use ckr_desk_store::Store;
 use ckr_events::Event;
@@ -34,13 +35,13 @@ use std::alloc::Global;
 use std::marker::Model;
 use std::rc::Rc;
 
-/// The jobs in memory with their disk, and the console with the operator in office, if anybody is.
+/// The jobs in memory with their disk, and the machine room: the operator in office, if anybody is, and the units.
 #[derive(Drop)]
 pub struct Desk<D: Disk, O: Operator> {
     pub(crate) alloc: Global,
     pub(crate) store: Store<D>,
     pub(crate) jobs: Jobs,
-    pub(crate) console: Console<O>,
+    pub(crate) machine_room: MachineRoom<O>,
     pub(crate) event_bytes: EventBytes,
 }
 
@@ -49,9 +50,9 @@ impl<D: Disk, O: Operator> Model for Desk<D, O> {
 
     ghost Value = { DeskView D };
 
-    ghost view = { λ s. record { store = s.store; jobs = s.jobs; operator = s.console } };
+    ghost view = { λ s. record { store = s.store; jobs = s.jobs; machine_room = s.machine_room } };
 
-    ghost invariant = { λ s. IsKept (record { store = s.store; jobs = s.jobs; operator = s.console }) };
+    ghost invariant = { λ s. IsKept (record { store = s.store; jobs = s.jobs; machine_room = s.machine_room }) };
 }
 
 impl<D: Disk, O: Operator> Desk<D, O> {
@@ -90,9 +91,9 @@ impl<D: Disk, O: Operator> Desk<D, O> {
 
     /// The next operator takes office, and the former one is dropped. Nothing else changes, and no memory is taken.
     pub fn shift(&mut self, operator: O)
-        ensures { self.new ≡ record self.old { operator = Some (O.answering operator) } }
+        ensures { self.new ≡ record self.old { machine_room = record (machine_room_of self.old) { operator = Some (O.answering operator) } } }
     {
-        self.console.shift(operator);
+        self.machine_room.shift(operator);
     }
 
     /// Puts an event on the disk that follows and is ready, behind all that was written before, and the jobs go on by it. What it commits is up to
@@ -123,7 +124,7 @@ impl<D: Disk, O: Operator> Desk<D, O> {
         ensures size { D.size self.new.store.disk ≡ D.size self.old.store.disk }
         ensures faults { D.faults self.old.store.disk ≤ D.faults self.new.store.disk }
         ensures layout { self.new.store.layout ≡ self.old.store.layout }
-        ensures operator { self.new.operator ≡ self.old.operator }
+        ensures machine_room { self.new.machine_room ≡ self.old.machine_room }
         ensures cause { IfErr result (NotEntered D.faults self.old self.new) }
     {
         let _layout = self.store.layout();
@@ -159,7 +160,7 @@ impl<D: Disk, O: Operator> Desk<D, O> {
         ensures size { D.size self.new.store.disk ≡ D.size self.old.store.disk }
         ensures faults { D.faults self.old.store.disk ≤ D.faults self.new.store.disk }
         ensures layout { self.new.store.layout ≡ self.old.store.layout }
-        ensures operator { self.new.operator ≡ self.old.operator }
+        ensures machine_room { self.new.machine_room ≡ self.old.machine_room }
         ensures stopped { IfSome self.old.store.fault (λ fault. result ≡ Err (DeskError.Stopped fault)) }
         ensures cause { IfErr result (NotKept D.faults event.now deck self.old self.new) }
     {

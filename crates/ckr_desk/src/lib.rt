@@ -10,6 +10,7 @@ mod entry_reads;
 mod error;
 mod event_bytes;
 mod kept_point;
+mod machine_room;
 mod opening;
 mod plan;
 mod preparation;

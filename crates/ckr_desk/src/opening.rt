@@ -21,19 +21,21 @@ ghost use Rattle.ckr_desk.specs.FirstSync.{FromSync, IsLeft};
 ghost use Rattle.ckr_desk.specs.Replay.{IsReplayed, IsReplayedTo, GoneOn, LastGone, ReplayCause, EventCause, IsReadTo, OpenCause, IsFound};
 ghost use Rattle.ckr_desk.specs.Replay.{HasFailedAgain, IsLackingAgain, IsWrittenAgain, fits_in, has_record};
 ghost use Rattle.ckr_desk.specs.Soundness.{AllSound, HasKept, IsTrusted, desk_opening, events_in, last_on, state_of};
-ghost use Rattle.ckr_desk.specs.State.{AreKept, opened_of, operator_of};
+ghost use Rattle.ckr_desk.specs.State.{AreKept, layout_of, machine_room_of, opened_of, room_at_first};
 
 use crate::entries::check_entries;
 use crate::event_bytes::EventBytes;
+use crate::machine_room::MachineRoom;
 use crate::{Desk, OpenError, Opening};
 use ckr_base::Rec;
-use ckr_console::{Console, Operator};
+use ckr_console::Operator;
 use ckr_desk_memory::Jobs;
 use ckr_desk_store::Store;
 use ckr_events::Event;
 use ckr_journal::{LayoutError, Next, NextEventError, next_event, read_layout};
 use ckr_library::{Content, DataSet};
 use ckr_outside::Disk;
+use ckr_queue::Mounts;
 use ckr_volumes::Layout;
 use std::alloc::Global;
 
@@ -236,7 +238,7 @@ impl<D: Disk, O: Operator> Desk<D, O> {
         ensures failed { IfOk result (λ found. found.desk.jobs.failed ≡ failed_in found.desk.jobs.tables.desk) }
         ensures points { IfOk result (λ found. ArePointsRead D.told found.desk.store.layout found.desk.jobs.tables.desk (D.content disk) found.desk.jobs.points) }
         ensures running { IfOk result (λ found. found.desk.jobs.running ≡ []) }
-        ensures operator { IfOk result (λ found. found.desk.operator ≡ option_map O.answering operator) }
+        ensures machine_room { IfOk result (λ found. found.desk.machine_room ≡ room_at_first found.desk.store.layout (option_map O.answering operator)) }
         ensures is_open { IfOk result (λ found. found.desk.store.fault ≡ None) }
         ensures settled { IfOk result (λ found. Only (D.content found.desk.store.disk) (D.may_leave found.desk.store.disk)) }
         ensures synced { IfOk result (λ found. FromSync D.content D.may_leave D.moment D.left_since disk found.desk.store.disk (λ image. image ≡ D.content disk)) }
@@ -259,13 +261,15 @@ impl<D: Disk, O: Operator> Desk<D, O> {
                     event_bytes,
                 },
             ) => {
+                let mounts = Mounts::new(layout.units);
+                let machine_room = MachineRoom::new(operator, mounts);
                 let store = Store::open(disk, layout, end);
                 Ok(Read {
                     desk: Desk {
                         alloc,
                         store,
                         jobs,
-                        console: Console::new(operator),
+                        machine_room,
                         event_bytes,
                     },
                     last,
@@ -316,7 +320,7 @@ impl<D: Disk, O: Operator> Desk<D, O> {
         ensures left { EachSince D.moment D.left_since self.old.store.disk self.new.store.disk (IsLackingAgain D.content D.size last.now self.old) }
         ensures events { D.told → event_records self.old.store.layout (D.content self.new.store.disk) ≡ event_records self.old.store.layout (D.content self.old.store.disk) }
         ensures jobs { HasSameJobs self.old self.new }
-        ensures operator { self.new.operator ≡ self.old.operator }
+        ensures machine_room { self.new.machine_room ≡ self.old.machine_room }
         ensures kept { OnOk result (self.new.store ≡ record self.old.store { disk = self.new.store.disk }) }
         ensures size { D.size self.new.store.disk ≡ D.size self.old.store.disk }
         ensures faults { D.faults self.old.store.disk ≤ D.faults self.new.store.disk }
@@ -349,7 +353,7 @@ impl<D: Disk, O: Operator> Desk<D, O> {
         ensures trusted { AllSound D.told D.may_leave D.size disk → IfOk result (λ desk. IsTrusted D.told D.content D.may_leave desk) }
         ensures read { D.told → IfOk result (λ desk. opening_of (D.content disk) (D.size disk) ≡ Ok (opened_of desk)) }
         ensures failed { IfOk result (λ desk. desk.jobs.failed ≡ failed_in desk.jobs.tables.desk) }
-        ensures operator { IfOk result (λ desk. operator_of desk ≡ option_map O.answering operator) }
+        ensures machine_room { IfOk result (λ desk. machine_room_of desk ≡ room_at_first (layout_of desk) (option_map O.answering operator)) }
         ensures running { IfOk result (λ desk. desk.jobs.running ≡ []) }
         ensures is_open { IfOk result (λ desk. desk.store.fault ≡ None) }
         ensures settled { IfOk result (λ desk. Only (D.content desk.store.disk) (D.may_leave desk.store.disk)) }

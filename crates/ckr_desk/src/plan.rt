@@ -15,7 +15,7 @@ ghost use Rattle.ckr_desk.specs.Soundness.{state_of};
 ghost use Rattle.ckr_desk.specs.Turn.{AnswerStands, asks};
 ghost use Rattle.ckr_desk.specs.Continuation.{PlanKnows, PlanStandsAt};
 ghost use Rattle.ckr_desk.specs.Units.{HasGoneBehind, HasTurned, IsLeftBehind, IsPlanned, IsSettledPlan, NotBehind};
-ghost use Rattle.ckr_desk_turn.specs.declared.reply.Turn.{Turn as TurnOf};
+ghost use Rattle.ckr_desk_turn.specs.Turns.{MountedTurn};
 
 use crate::preparation::Ready;
 use crate::{Desk, DeskError};
@@ -40,7 +40,7 @@ impl<D: Disk, O: Operator> Desk<D, O> {
         ensures gone { OnOk result (HasGoneBehind D.told D.content plan self.old self.new) }
         ensures settled { OnOk result (IsSettledBehind D.content D.may_leave (event_in plan) self.new) }
         ensures left { D.told → EachSince D.moment D.left_since self.old.store.disk self.new.store.disk (IsLeftBehind D.content D.may_leave D.size (event_in plan) self.old) }
-        ensures operator { self.new.operator ≡ self.old.operator }
+        ensures machine_room { self.new.machine_room ≡ self.old.machine_room }
         ensures is_open { OnOk result (self.new.store.fault ≡ None) }
         ensures layout { self.new.store.layout ≡ self.old.store.layout }
         ensures size { D.size self.new.store.disk ≡ D.size self.old.store.disk }
@@ -72,7 +72,7 @@ impl<D: Disk, O: Operator> Desk<D, O> {
     pub(crate) fn pass(&mut self, run: u32)
         ensures passed { HasPassed run self.old.jobs self.new.jobs }
         ensures store { self.new.store ≡ self.old.store }
-        ensures operator { self.new.operator ≡ self.old.operator }
+        ensures machine_room { self.new.machine_room ≡ self.old.machine_room }
     {
         self.jobs.pass(run);
     }
@@ -87,10 +87,11 @@ impl<D: Disk, O: Operator> Desk<D, O> {
         requires commits { PlanCommits self.old.jobs.tables.desk self.old.jobs.running plan }
         requires leaves { PlanLeaves self.old.jobs.failed plan }
         requires due { HasDue self.old.jobs plan }
-        ensures turned { (turn : TurnOf) → IsPlanned D.told D.content D.may_leave self.old turn plan → PlanStandsAt (state_of D.content self.old).desk self.old.jobs.points plan
-            → HasTurned D.told D.content D.may_leave D.moment D.left_since D.size turn (restart_answer self.old.operator) self.old self.new result }
-        ensures answered { (turn : TurnOf) → IsPlanned D.told D.content D.may_leave self.old turn plan
-            → AnswerStands (asks (state_of D.content self.old) turn (restart_answer self.old.operator)) self.old.operator self.new.operator result }
+        ensures turned { (turn : MountedTurn) → IsPlanned D.told D.content D.may_leave self.old turn plan → PlanStandsAt (state_of D.content self.old).desk self.old.jobs.points plan
+            → HasTurned D.told D.content D.may_leave D.moment D.left_since D.size turn (restart_answer self.old.machine_room.operator) self.old self.new result }
+        ensures answered { (turn : MountedTurn) → IsPlanned D.told D.content D.may_leave self.old turn plan
+            → AnswerStands (asks (state_of D.content self.old) turn (restart_answer self.old.machine_room.operator)) self.old.machine_room self.new.machine_room result }
+        ensures mounts { self.new.machine_room.mounts ≡ self.old.machine_room.mounts }
         ensures spelled { IfOk result IsToldReply }
         ensures is_open { OnOk result (self.new.store.fault ≡ None) }
         ensures layout { self.new.store.layout ≡ self.old.store.layout }

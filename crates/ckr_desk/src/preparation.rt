@@ -47,7 +47,7 @@ impl<D: Disk, O: Operator> Desk<D, O> {
         ensures ready { IfOk result (IsReady event.now (option_copied deck.entry) self.new) }
         ensures jobs { HasSameJobs self.old self.new }
         ensures store { self.new.store ≡ self.old.store }
-        ensures operator { self.new.operator ≡ self.old.operator }
+        ensures machine_room { self.new.machine_room ≡ self.old.machine_room }
         ensures cause { IfErr result (NotReady event.now self.old self.new) }
     {
         let _layout = self.store.layout();
@@ -69,7 +69,7 @@ impl<D: Disk, O: Operator> Desk<D, O> {
         ensures fits { OnOk result (need_of event.now ≤ room_of self.new.store.book) }
         ensures jobs { self.new.jobs ≡ self.old.jobs }
         ensures store { self.new.store ≡ self.old.store }
-        ensures operator { self.new.operator ≡ self.old.operator }
+        ensures machine_room { self.new.machine_room ≡ self.old.machine_room }
         ensures cause { IfErr result (NotFit (Some event.now) self.old self.new) }
     {
         let need = self.event_bytes.of(event, spelled).len() as u32 + 6;
@@ -86,7 +86,7 @@ impl<D: Disk, O: Operator> Desk<D, O> {
         ensures ready { IfOk result (IsReadyFor (event_in plan.now) self.new) }
         ensures jobs { HasSameJobs self.old self.new }
         ensures store { self.new.store ≡ self.old.store }
-        ensures operator { self.new.operator ≡ self.old.operator }
+        ensures machine_room { self.new.machine_room ≡ self.old.machine_room }
         ensures cause { IfErr result (NotReadyFor (event_in plan.now) self.old self.new) }
     {
         match plan {
@@ -96,13 +96,17 @@ impl<D: Disk, O: Operator> Desk<D, O> {
     }
 
     /// Makes ready what the operator's answer comes to, if it tells an event, for which there is this memory. `BookFull`, as `make_ready`.
-    fn ready_with(&mut self, plan: &Plan, prepared: Prepared) -> Result<Option<Ready>, DeskError>
+    pub(crate) fn ready_with(
+        &mut self,
+        plan: &Plan,
+        prepared: Prepared,
+    ) -> Result<Option<Ready>, DeskError>
         requires spelled { IsSpelledPlan plan.now }
         requires prepared { IsPreparedPlan self.old.jobs plan.now prepared }
         ensures ready { IfOk result (IsReadyFor (event_in plan.now) self.new) }
         ensures jobs { HasSameJobs self.old self.new }
         ensures store { self.new.store ≡ self.old.store }
-        ensures operator { self.new.operator ≡ self.old.operator }
+        ensures machine_room { self.new.machine_room ≡ self.old.machine_room }
         ensures cause { IfErr result (NotFit (event_in plan.now) self.old self.new) }
     {
         match plan {
@@ -124,18 +128,19 @@ impl<D: Disk, O: Operator> Desk<D, O> {
     /// room of the book; an answer that was given stands (this project's profile).
     pub(crate) fn settle(&mut self, plan: Plan) -> Result<(Plan, Option<Ready>), DeskError>
         requires spelled { IsSpelledPlan plan }
-        ensures decided { IfOk result (λ settled. settled.0 ≡ decide (restart_answer self.old.operator) plan) }
+        ensures decided { IfOk result (λ settled. settled.0 ≡ decide (restart_answer self.old.machine_room.operator) plan) }
         ensures spelled { IfOk result (λ settled. IsSpelledPlan settled.0) }
         ensures ready { IfOk result (λ settled. IsReadyFor (event_in settled.0) self.new settled.1) }
         ensures jobs { HasSameJobs self.old self.new }
         ensures store { self.new.store ≡ self.old.store }
-        ensures answered { AnswerStands (is_ask plan) self.old.operator self.new.operator result }
-        ensures cause { IfErr result (NotSettled (restart_answer self.old.operator) plan self.old self.new) }
+        ensures answered { AnswerStands (is_ask plan) self.old.machine_room self.new.machine_room result }
+        ensures mounts { self.new.machine_room.mounts ≡ self.old.machine_room.mounts }
+        ensures cause { IfErr result (NotSettled (restart_answer self.old.machine_room.operator) plan self.old self.new) }
     {
         match plan {
             Plan::Ask(inquiry) => {
                 let prepared = self.jobs.prepare_answers(&inquiry)?;
-                let answer = self.console.ask(&inquiry.question());
+                let answer = self.machine_room.ask(&inquiry.question());
                 let plan = decided(inquiry, answer);
                 let ready = self.ready_with(&plan, prepared)?;
                 Ok((plan, ready))

@@ -8,7 +8,7 @@ ghost use Rattle.ckr_desk.specs.CallOutcomes.{HasComeTo, KeepsDesk};
 ghost use Rattle.ckr_desk.specs.Records.{ReadingCause};
 ghost use Rattle.ckr_desk.specs.Requests.{TellsFull};
 ghost use Rattle.ckr_desk.specs.Soundness.{IsTrusted, KeepsWithin, state_of};
-ghost use Rattle.ckr_desk.specs.State.{IsOpen, operator_of, room_left};
+ghost use Rattle.ckr_desk.specs.State.{IsOpen, machine_room_of, room_left};
 
 use crate::{Desk, DeskError};
 use ckr_base::{DsName, Records};
@@ -74,7 +74,7 @@ impl<D: Disk, O: Operator> Desk<D, O> {
         ensures comes { IsTrusted D.told D.content D.may_leave self.old
             → HasComeTo D.told D.content D.may_leave None (state_of D.content self.old) self.old self.new result }
         ensures full { IfErr result (TellsFull (room_left self.old) None) }
-        ensures operator { operator_of self.new ≡ operator_of self.old }
+        ensures machine_room { machine_room_of self.new ≡ machine_room_of self.old }
         ensures keeps { KeepsDesk D.content D.may_leave D.faults D.size self.old self.new result }
 
         // A stop at any moment leaves a sound image with the same events.

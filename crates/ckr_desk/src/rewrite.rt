@@ -23,7 +23,7 @@ impl<D: Disk, O: Operator> Desk<D, O> {
             → EachSince D.moment D.left_since self.old.store.disk self.new.store.disk (IsLackingBy D.content D.size event.now self.old) }
         ensures events { D.told → event_records self.old.store.layout (D.content self.new.store.disk) ≡ event_records self.old.store.layout (D.content self.old.store.disk) }
         ensures jobs { HasSameJobs self.old self.new }
-        ensures operator { self.new.operator ≡ self.old.operator }
+        ensures machine_room { self.new.machine_room ≡ self.old.machine_room }
         ensures kept { OnOk result (self.new.store ≡ record self.old.store { disk = self.new.store.disk }) }
         ensures layout { self.new.store.layout ≡ self.old.store.layout }
         ensures size { D.size self.new.store.disk ≡ D.size self.old.store.disk }

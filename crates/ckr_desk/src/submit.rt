@@ -11,7 +11,7 @@ ghost use Rattle.ckr_desk_turn.specs.Model.Submission.TheVariants as Decks;
 ghost use Rattle.ckr_desk.specs.CallOutcomes.{HasComeTo, KeepsDesk};
 ghost use Rattle.ckr_desk.specs.Requests.{TellsFull, behind_call, came_by, event_in, spelled};
 ghost use Rattle.ckr_desk.specs.Soundness.{IsTrusted, KeepsWithin, state_of};
-ghost use Rattle.ckr_desk.specs.State.{IsOpen, disk_of, layout_of, operator_of, room_left, tables_in_memory};
+ghost use Rattle.ckr_desk.specs.State.{IsOpen, disk_of, layout_of, machine_room_of, room_left, tables_in_memory};
 ghost use Rattle.ckr_desk.specs.Calls.{HasDone, HasGoneOn, IsLeftBy, IsLeftByCall, IsSettledBehind, NotDone, NotKept, with_event};
 ghost use Rattle.ckr_desk.specs.Submit.{answer_to, call_by, job_number, next_number, submit_answer, submit_call};
 
@@ -50,7 +50,7 @@ impl<D: Disk, O: Operator> Desk<D, O> {
         ensures layout { self.new.store.layout ≡ self.old.store.layout }
         ensures size { D.size self.new.store.disk ≡ D.size self.old.store.disk }
         ensures faults { D.faults self.old.store.disk ≤ D.faults self.new.store.disk }
-        ensures operator { self.new.operator ≡ self.old.operator }
+        ensures machine_room { self.new.machine_room ≡ self.old.machine_room }
         ensures cause { IfErr result (NotKept D.faults (Events.Submitted number (kept_of_stored cards.now)) (Some job) self.old self.new) }
     {
         let _layout = self.store.layout();
@@ -73,7 +73,7 @@ impl<D: Disk, O: Operator> Desk<D, O> {
         ensures layout { self.new.store.layout ≡ self.old.store.layout }
         ensures size { D.size self.new.store.disk ≡ D.size self.old.store.disk }
         ensures faults { D.faults self.old.store.disk ≤ D.faults self.new.store.disk }
-        ensures operator { self.new.operator ≡ self.old.operator }
+        ensures machine_room { self.new.machine_room ≡ self.old.machine_room }
         ensures cause { IfErr result (NotDone D.faults (call_by self.old.jobs.tables.desk cards.now (Decks.Accepted job)) self.old self.new) }
     {
         let Some(number) = self.job_number() else {
@@ -104,7 +104,7 @@ impl<D: Disk, O: Operator> Desk<D, O> {
         ensures layout { self.new.store.layout ≡ self.old.store.layout }
         ensures size { D.size self.new.store.disk ≡ D.size self.old.store.disk }
         ensures faults { D.faults self.old.store.disk ≤ D.faults self.new.store.disk }
-        ensures operator { self.new.operator ≡ self.old.operator }
+        ensures machine_room { self.new.machine_room ≡ self.old.machine_room }
         ensures is_open { OnOk result (self.old.store.fault ≡ None) }
         ensures stopped { IfSome self.old.store.fault (λ fault. result ≡ Err (DeskError.Stopped fault)) }
         ensures cause { IfErr result (NotDone D.faults (submit_call self.old.jobs.tables.desk cards.now) self.old self.new) }
@@ -140,7 +140,7 @@ impl<D: Disk, O: Operator> Desk<D, O> {
         ensures told { D.told → OnOk result (event_records (layout_of self.old) (D.content (disk_of self.new))
             ≡ event_records (layout_of self.old) (D.content (disk_of self.old)) ++ spelled (event_in (submit_call (tables_in_memory self.old) cards.now))) }
         ensures full { IfErr result (TellsFull (room_left self.old) (event_in (submit_call (tables_in_memory self.old) cards.now))) }
-        ensures operator { operator_of self.new ≡ operator_of self.old }
+        ensures machine_room { machine_room_of self.new ≡ machine_room_of self.old }
         ensures keeps { KeepsDesk D.content D.may_leave D.faults D.size self.old self.new result }
 
         // A stop at any moment leaves a sound image with the events before the call, or with its one event too; with none where it found no memory, or no room in the book.

@@ -7,9 +7,9 @@ ghost use Rattle.ckr_desk_turn.specs.Invariant.{IsTurnOf};
 ghost use Rattle.ckr_desk.specs.CallOutcomes.{HasComeTo, KeepsDesk};
 ghost use Rattle.ckr_desk.specs.NoChange.{StaysBy};
 ghost use Rattle.ckr_desk.specs.Requests.{MayFail, TellsNumbers, came_by, spelled};
-ghost use Rattle.ckr_desk.specs.Turn.{AnswerStands, asks, behind_turn, event_of_turn, reply_of};
+ghost use Rattle.ckr_desk.specs.Turn.{AnswerStands, asks, behind_turn, event_of_turn, reply_of, untaken};
 ghost use Rattle.ckr_desk.specs.Soundness.{IsTrusted, KeepsWithin, state_of};
-ghost use Rattle.ckr_desk.specs.State.{IsOpen, layout_of, operator_of, room_left};
+ghost use Rattle.ckr_desk.specs.State.{IsOpen, layout_of, machine_room_of, operator_of, room_left};
 ghost use Rattle.ckr_desk.specs.Units.{HasTurned, TakesBy};
 
 use crate::{Desk, DeskError};
@@ -32,20 +32,20 @@ impl<D: Disk, O: Operator> Desk<D, O> {
     pub fn turn(&mut self, turn: Turn) -> Result<Reply, DeskError>
         requires initiator { IsTurnOf (layout_of self.old) turn }
         requires code { IsAnyCode turn.fail }
-        ensures reply { IsTrusted D.told D.content D.may_leave self.old → IfOk result (λ reply. reply ≡ reply_of (state_of D.content self.old) turn (restart_answer (operator_of self.old))) }
+        ensures reply { IsTrusted D.told D.content D.may_leave self.old → IfOk result (λ reply. reply ≡ reply_of (state_of D.content self.old) (untaken turn) (restart_answer (operator_of self.old))) }
         ensures spelled { IfOk result IsToldReply }
-        ensures comes { IsTrusted D.told D.content D.may_leave self.old → HasComeTo D.told D.content D.may_leave (event_of_turn (state_of D.content self.old) turn (restart_answer (operator_of self.old)))
-            (behind_turn (state_of D.content self.old) turn (restart_answer (operator_of self.old))) self.old self.new result }
+        ensures comes { IsTrusted D.told D.content D.may_leave self.old → HasComeTo D.told D.content D.may_leave (event_of_turn (state_of D.content self.old) (untaken turn) (restart_answer (operator_of self.old)))
+            (behind_turn (state_of D.content self.old) (untaken turn) (restart_answer (operator_of self.old))) self.old self.new result }
         ensures answered { IsTrusted D.told D.content D.may_leave self.old
-            → AnswerStands (asks (state_of D.content self.old) turn (restart_answer (operator_of self.old))) (operator_of self.old) (operator_of self.new) result }
-        ensures takes { IsTrusted D.told D.content D.may_leave self.old → IfErr result (TakesBy (reply_of (state_of D.content self.old) turn (restart_answer (operator_of self.old)))
-            (event_of_turn (state_of D.content self.old) turn (restart_answer (operator_of self.old))) (asks (state_of D.content self.old) turn (restart_answer (operator_of self.old)))) }
+            → AnswerStands (asks (state_of D.content self.old) (untaken turn) (restart_answer (operator_of self.old))) (machine_room_of self.old) (machine_room_of self.new) result }
+        ensures takes { IsTrusted D.told D.content D.may_leave self.old → IfErr result (TakesBy (reply_of (state_of D.content self.old) (untaken turn) (restart_answer (operator_of self.old)))
+            (event_of_turn (state_of D.content self.old) (untaken turn) (restart_answer (operator_of self.old))) (asks (state_of D.content self.old) (untaken turn) (restart_answer (operator_of self.old)))) }
         ensures full { IfErr result (TellsNumbers (room_left self.old)) }
         ensures keeps { KeepsDesk D.content D.may_leave D.faults D.size self.old self.new result }
 
         // A stop at any moment leaves a sound image with the events before the call, or with its one event too; with none where it found no memory, or no room in the book.
         ensures kept { IsOpen self.old → IsTrusted D.told D.content D.may_leave self.old
-            → KeepsWithin D.content D.moment D.left_since D.size self.old self.new (came_by result (spelled (event_of_turn (state_of D.content self.old) turn (restart_answer (operator_of self.old))))) }
+            → KeepsWithin D.content D.moment D.left_since D.size self.old self.new (came_by result (spelled (event_of_turn (state_of D.content self.old) (untaken turn) (restart_answer (operator_of self.old))))) }
     {
         let _layout = self.store.layout();
         if let Some(fault) = self.store.fault() {
@@ -59,9 +59,9 @@ impl<D: Disk, O: Operator> Desk<D, O> {
         requires is_open { self.old.store.fault ≡ None }
         requires initiator { IsTurnOf self.old.store.layout turn }
         requires code { IsAnyCode turn.fail }
-        ensures turned { IsTrusted D.told D.content D.may_leave self.old → HasTurned D.told D.content D.may_leave D.moment D.left_since D.size turn (restart_answer self.old.operator) self.old self.new result }
+        ensures turned { IsTrusted D.told D.content D.may_leave self.old → HasTurned D.told D.content D.may_leave D.moment D.left_since D.size (untaken turn) (restart_answer self.old.machine_room.operator) self.old self.new result }
         ensures answered { IsTrusted D.told D.content D.may_leave self.old
-            → AnswerStands (asks (state_of D.content self.old) turn (restart_answer self.old.operator)) self.old.operator self.new.operator result }
+            → AnswerStands (asks (state_of D.content self.old) (untaken turn) (restart_answer self.old.machine_room.operator)) self.old.machine_room self.new.machine_room result }
         ensures spelled { IfOk result IsToldReply }
         ensures is_open { OnOk result (self.new.store.fault ≡ None) }
         ensures layout { self.new.store.layout ≡ self.old.store.layout }
@@ -83,9 +83,9 @@ impl<D: Disk, O: Operator> Desk<D, O> {
         requires is_open { self.old.store.fault ≡ None }
         requires initiator { IsTurnOf self.old.store.layout turn }
         requires code { IsAnyCode turn.fail }
-        ensures turned { IsTrusted D.told D.content D.may_leave self.old → HasTurned D.told D.content D.may_leave D.moment D.left_since D.size turn (restart_answer self.old.operator) self.old self.new result }
+        ensures turned { IsTrusted D.told D.content D.may_leave self.old → HasTurned D.told D.content D.may_leave D.moment D.left_since D.size (untaken turn) (restart_answer self.old.machine_room.operator) self.old self.new result }
         ensures answered { IsTrusted D.told D.content D.may_leave self.old
-            → AnswerStands (asks (state_of D.content self.old) turn (restart_answer self.old.operator)) self.old.operator self.new.operator result }
+            → AnswerStands (asks (state_of D.content self.old) (untaken turn) (restart_answer self.old.machine_room.operator)) self.old.machine_room self.new.machine_room result }
         ensures spelled { IfOk result IsToldReply }
         ensures is_open { OnOk result (self.new.store.fault ≡ None) }
         ensures layout { self.new.store.layout ≡ self.old.store.layout }

@@ -18,7 +18,7 @@ ghost use Rattle.ckr_steps.specs.Writes.{ChangesKeeping, grown};
 ghost use Rattle.ckr_desk_store.specs.OpenImages.{event_records, Opens};
 ghost use Rattle.ckr_desk_turn.specs.declared.plan.Plan.{Plan as PlanOf};
 ghost use Rattle.ckr_desk_turn.specs.declared.plan.Plan.TheVariants as Plans;
-ghost use Rattle.ckr_desk_turn.specs.declared.reply.Turn.{Turn as TurnOf};
+ghost use Rattle.ckr_desk_turn.specs.Turns.{MountedTurn};
 ghost use Rattle.ckr_desk.specs.Requests.{MayFail, TellsNumbers};
 ghost use Rattle.ckr_desk.specs.Calls.{HasSameJobs};
 ghost use Rattle.ckr_desk.specs.Preparation.{IsAhead, IsLookedAhead, IsWorkedOut, NotLooked, NotWorkedOut, asks_behind};
@@ -74,9 +74,9 @@ fn do_unit<D: Disk>(
 /// A unit that tells an event, and was looked at: the unit, what the turn tells of it, and what is ready for that.
 #[derive(Drop)]
 pub(crate) struct Ahead {
-    unit: UnitAhead,
-    plan: Plan,
-    ready: Option<Ready>,
+    pub(crate) unit: UnitAhead,
+    pub(crate) plan: Plan,
+    pub(crate) ready: Option<Ready>,
 }
 
 impl<D: Disk, O: Operator> Desk<D, O> {
@@ -84,13 +84,13 @@ impl<D: Disk, O: Operator> Desk<D, O> {
     /// and what the jobs are stays the same.
     ///
     /// `DiskFault`: only where the disk's faults rose in this call; then the desk has stopped.
-    fn work_out(&mut self, run: u32) -> Result<UnitAhead, DeskError>
+    pub(crate) fn work_out(&mut self, run: u32) -> Result<UnitAhead, DeskError>
         requires is_open { self.old.store.fault ≡ None }
         requires due { HasDue self.old.jobs (Plans.Work run) }
         ensures unit { IfOk result (IsWorkedOut D.told D.content run self.new) }
         ensures kept { OnOk result (self.new.store ≡ record self.old.store { disk = self.new.store.disk }) }
         ensures jobs { HasSameJobs self.old self.new }
-        ensures operator { self.new.operator ≡ self.old.operator }
+        ensures machine_room { self.new.machine_room ≡ self.old.machine_room }
         ensures only_reads { OnlyReads D.content D.may_leave D.moment D.left_since self.old.store.disk self.new.store.disk }
         ensures any_moment { EachSince D.moment D.left_since self.old.store.disk self.new.store.disk (OpensSame D.content D.size self.old) }
         ensures layout { self.new.store.layout ≡ self.old.store.layout }
@@ -114,12 +114,13 @@ impl<D: Disk, O: Operator> Desk<D, O> {
     fn look(&mut self, run: u32, unit: UnitAhead) -> Result<Ahead, DeskError>
         requires is_open { self.old.store.fault ≡ None }
         requires unit { IsWorkedOut D.told D.content run self.old unit }
-        ensures ahead { IfOk result (IsAhead D.told D.content run (restart_answer self.old.operator) self.new) }
+        ensures ahead { IfOk result (IsAhead D.told D.content run (restart_answer self.old.machine_room.operator) self.new) }
         ensures jobs { HasSameJobs self.old self.new }
         ensures store { self.new.store ≡ self.old.store }
         ensures answered { (on : RunningStepOf) (row : RunRow) (own : OwnedStep) → IsAt run self.old on row own
-            → AnswerStands (asks_behind self.old row on unit) self.old.operator self.new.operator result }
-        ensures cause { IfErr result (NotLooked D.told D.content run (restart_answer self.old.operator) self.old self.new) }
+            → AnswerStands (asks_behind self.old row on unit) self.old.machine_room self.new.machine_room result }
+        ensures mounts { self.new.machine_room.mounts ≡ self.old.machine_room.mounts }
+        ensures cause { IfErr result (NotLooked D.told D.content run (restart_answer self.old.machine_room.operator) self.old self.new) }
     {
         let _layout = self.store.layout();
         let Some(on) = self.jobs.running_step(run) else {
@@ -140,7 +141,7 @@ impl<D: Disk, O: Operator> Desk<D, O> {
         ensures points { OnOk result (self.new.jobs.points ≡ self.old.jobs.points) }
         ensures place { OnOk result (self.new.jobs.running_room ≡ self.old.jobs.running_room) }
         ensures commits { OnOk result ((answer : AnswerOf) (plan : PlanOf) → IsLookedAhead D.told D.content run self.old unit answer plan → PlanCommits self.new.jobs.tables.desk self.new.jobs.running plan) }
-        ensures operator { self.new.operator ≡ self.old.operator }
+        ensures machine_room { self.new.machine_room ≡ self.old.machine_room }
         ensures left { EachSince D.moment D.left_since self.old.store.disk self.new.store.disk (IsLeftByUnit D.content D.may_leave D.size run self.old) }
         ensures events { D.told → OnOk result (event_records self.old.store.layout (D.content self.new.store.disk) ≡ event_records self.old.store.layout (D.content self.old.store.disk)) }
         ensures kept { OnOk result (self.new.store ≡ record self.old.store { disk = self.new.store.disk }) }
@@ -161,12 +162,14 @@ impl<D: Disk, O: Operator> Desk<D, O> {
     }
 
     /// The next unit of a run's running step, which was looked at, and what goes on behind it. It takes no memory.
-    fn work_on(&mut self, run: u32, ahead: Ahead) -> Result<Reply, DeskError>
+    pub(crate) fn work_on(&mut self, run: u32, ahead: Ahead) -> Result<Reply, DeskError>
         requires is_open { self.old.store.fault ≡ None }
         requires ahead { (answer : AnswerOf) × IsAhead D.told D.content run answer self.old ahead }
-        ensures turned { (turn : TurnOf) (answer : AnswerOf) → IsPlanned D.told D.content D.may_leave self.old turn (Plans.Work run) → IsAhead D.told D.content run answer self.old ahead
+        ensures turned { (turn : MountedTurn) (answer : AnswerOf) → IsPlanned D.told D.content D.may_leave self.old turn (Plans.Work run) → IsAhead D.told D.content run answer self.old ahead
             → HasTurned D.told D.content D.may_leave D.moment D.left_since D.size turn answer self.old self.new result }
-        ensures operator { self.new.operator ≡ self.old.operator }
+        ensures unasked { (turn : MountedTurn) (answer : AnswerOf) → IsPlanned D.told D.content D.may_leave self.old turn (Plans.Work run) → IsAhead D.told D.content run answer self.old ahead
+            → IsWent ahead.unit.worked → OnOk result (asks (state_of D.content self.old) turn answer ≡ false) }
+        ensures machine_room { self.new.machine_room ≡ self.old.machine_room }
         ensures spelled { IfOk result IsToldReply }
         ensures is_open { OnOk result (self.new.store.fault ≡ None) }
         ensures layout { self.new.store.layout ≡ self.old.store.layout }
@@ -194,10 +197,10 @@ impl<D: Disk, O: Operator> Desk<D, O> {
         requires is_open { self.old.store.fault ≡ None }
         requires unit { IsWorkedOut D.told D.content run self.old unit }
         requires went { IsWent unit.worked }
-        ensures turned { (turn : TurnOf) (answer : AnswerOf) → IsPlanned D.told D.content D.may_leave self.old turn (Plans.Work run) → HasTurned D.told D.content D.may_leave D.moment D.left_since D.size turn answer self.old self.new result }
-        ensures answered { (turn : TurnOf) (answer : AnswerOf) → IsPlanned D.told D.content D.may_leave self.old turn (Plans.Work run)
-            → AnswerStands (asks (state_of D.content self.old) turn answer) self.old.operator self.new.operator result }
-        ensures operator { self.new.operator ≡ self.old.operator }
+        ensures turned { (turn : MountedTurn) (answer : AnswerOf) → IsPlanned D.told D.content D.may_leave self.old turn (Plans.Work run) → HasTurned D.told D.content D.may_leave D.moment D.left_since D.size turn answer self.old self.new result }
+        ensures answered { (turn : MountedTurn) (answer : AnswerOf) → IsPlanned D.told D.content D.may_leave self.old turn (Plans.Work run)
+            → AnswerStands (asks (state_of D.content self.old) turn answer) self.old.machine_room self.new.machine_room result }
+        ensures machine_room { self.new.machine_room ≡ self.old.machine_room }
         ensures spelled { IfOk result IsToldReply }
         ensures is_open { OnOk result (self.new.store.fault ≡ None) }
         ensures layout { self.new.store.layout ≡ self.old.store.layout }
@@ -222,10 +225,11 @@ impl<D: Disk, O: Operator> Desk<D, O> {
         requires is_open { self.old.store.fault ≡ None }
         requires unit { IsWorkedOut D.told D.content run self.old unit }
         requires tells { IsWent unit.worked → ⊥ }
-        ensures turned { (turn : TurnOf) → IsPlanned D.told D.content D.may_leave self.old turn (Plans.Work run)
-            → HasTurned D.told D.content D.may_leave D.moment D.left_since D.size turn (restart_answer self.old.operator) self.old self.new result }
-        ensures answered { (turn : TurnOf) → IsPlanned D.told D.content D.may_leave self.old turn (Plans.Work run)
-            → AnswerStands (asks (state_of D.content self.old) turn (restart_answer self.old.operator)) self.old.operator self.new.operator result }
+        ensures turned { (turn : MountedTurn) → IsPlanned D.told D.content D.may_leave self.old turn (Plans.Work run)
+            → HasTurned D.told D.content D.may_leave D.moment D.left_since D.size turn (restart_answer self.old.machine_room.operator) self.old self.new result }
+        ensures answered { (turn : MountedTurn) → IsPlanned D.told D.content D.may_leave self.old turn (Plans.Work run)
+            → AnswerStands (asks (state_of D.content self.old) turn (restart_answer self.old.machine_room.operator)) self.old.machine_room self.new.machine_room result }
+        ensures mounts { self.new.machine_room.mounts ≡ self.old.machine_room.mounts }
         ensures spelled { IfOk result IsToldReply }
         ensures is_open { OnOk result (self.new.store.fault ≡ None) }
         ensures layout { self.new.store.layout ≡ self.old.store.layout }
@@ -245,10 +249,11 @@ impl<D: Disk, O: Operator> Desk<D, O> {
     pub(crate) fn work(&mut self, run: u32) -> Result<Reply, DeskError>
         requires is_open { self.old.store.fault ≡ None }
         requires due { HasDue self.old.jobs (Plans.Work run) }
-        ensures turned { (turn : TurnOf) → IsPlanned D.told D.content D.may_leave self.old turn (Plans.Work run)
-            → HasTurned D.told D.content D.may_leave D.moment D.left_since D.size turn (restart_answer self.old.operator) self.old self.new result }
-        ensures answered { (turn : TurnOf) → IsPlanned D.told D.content D.may_leave self.old turn (Plans.Work run)
-            → AnswerStands (asks (state_of D.content self.old) turn (restart_answer self.old.operator)) self.old.operator self.new.operator result }
+        ensures turned { (turn : MountedTurn) → IsPlanned D.told D.content D.may_leave self.old turn (Plans.Work run)
+            → HasTurned D.told D.content D.may_leave D.moment D.left_since D.size turn (restart_answer self.old.machine_room.operator) self.old self.new result }
+        ensures answered { (turn : MountedTurn) → IsPlanned D.told D.content D.may_leave self.old turn (Plans.Work run)
+            → AnswerStands (asks (state_of D.content self.old) turn (restart_answer self.old.machine_room.operator)) self.old.machine_room self.new.machine_room result }
+        ensures mounts { self.new.machine_room.mounts ≡ self.old.machine_room.mounts }
         ensures spelled { IfOk result IsToldReply }
         ensures is_open { OnOk result (self.new.store.fault ≡ None) }
         ensures layout { self.new.store.layout ≡ self.old.store.layout }

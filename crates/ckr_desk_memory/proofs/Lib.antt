@@ -30,7 +30,10 @@ pub mod Runs
 pub mod SetCopies
 pub mod Starts
 pub mod Stops
+pub mod Takings
 pub mod TurnEvents
 pub mod WaitingRuns
+pub mod WantedVolumes
+pub mod WantingSteps
 pub mod RunningSteps
 pub mod Holders

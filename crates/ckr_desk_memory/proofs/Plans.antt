@@ -254,9 +254,9 @@ there_at [] place inside = absurd (omega (arith, inside))
 there_at (item ∷ items) zero inside = refl
 there_at (item ∷ items) (suc place) inside = there_at items place (omega (arith, inside))
 
-numbered_there : {A : Type 0} (items : List A) (number : ℕ) → 1 ≤ number → number ≤ length items → IsSome (slice_get items (pred number))
-numbered_there items zero first last = absurd (omega (arith, first))
-numbered_there items (suc place) first last = there_at items place (omega (arith, last))
+pub numbered-there : {A : Type 0} (items : List A) (number : ℕ) → 1 ≤ number → number ≤ length items → IsSome (slice_get items (pred number))
+numbered-there items zero first last = absurd (omega (arith, first))
+numbered-there items (suc place) first last = there_at items place (omega (arith, last))
 
 refusal_is : (result : Result Allocation Refusal) (refusal : Refusal) → IsAllocation result (Err refusal) → result ≡ Err refusal
 refusal_is (Ok done) refusal is = absurd is
@@ -269,7 +269,7 @@ refused-there layout row owned number tables refusal is =
     let inside =
     refused-inside table_ways (standing_of row tables) layout (stamp_of owned number) row.job.root owned (seen_by holding_of tables.sets) refusal
     (refusal_is (allocation_in layout row owned number tables) refusal is) in
-    numbered_there owned.step.dds refusal.dd inside.0 inside.1
+    numbered-there owned.step.dds refusal.dd inside.0 inside.1
 
 -- what is there has a view
 pub viewed-none : {A B : Type 0} (view : A → B) (found : Option A) → IsSome found → None ≡ option_map view found → ⊥

@@ -19,3 +19,4 @@ pub mod Holders
 pub mod OwnSets
 pub mod OwnEvents
 pub mod OwnSteps
+pub mod Mounts

@@ -13,6 +13,7 @@ mod holder_laws;
 mod jobs;
 mod known_point;
 mod lines;
+mod mounts;
 mod opening;
 mod plan;
 mod preparation;
@@ -36,6 +37,7 @@ pub use holder_laws::{
     holders_stay_apart, jobs_hold_their_own, own_events_follow, running_steps_stay_theirs,
 };
 pub use jobs::{Jobs, RunningStep, StepPoint};
+pub use mounts::run_wanting;
 pub use preparation::Prepared;
 pub use set_copy::copy_of_set;
 pub use sharing::shared_deck;

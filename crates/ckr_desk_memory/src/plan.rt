@@ -348,7 +348,7 @@ impl Jobs {
     }
 
     /// A DD of the step that a run is before can't be allocated, and the run ends.
-    fn refused(&self, job: u32, number: u8, name: Name8, refusal: Refusal) -> Plan
+    pub(crate) fn refused(&self, job: u32, number: u8, name: Name8, refusal: Refusal) -> Plan
         requires rows { AllByRecursion IsAcceptedRow self.now.tables.desk.runs }
         requires dd { HasDd self.now.tables.desk job number refusal.dd }
         ensures plan { (row : RunRow) (own : OwnedStep) → run_of self.now.tables.desk job ≡ Some row → step_of_run row number ≡ Some own → row.number ≡ job → name ≡ own.step.name → result ≡ allocation_ended row own refusal.dd refusal.cause }

@@ -33,6 +33,18 @@ pub struct Prepared {
     pub(crate) step: Option<RunningStep>,
 }
 
+impl Prepared {
+    /// No uses and no step: the memory for an event that needs neither.
+    pub fn none() -> Prepared
+        ensures { result ≡ record { uses = None; step = None } }
+    {
+        Prepared {
+            uses: None,
+            step: None,
+        }
+    }
+}
+
 /// The uses of a deck that is submitted under a number, if one is.
 fn uses_for(alloc: Global, number: u32, deck: Option<&Job>) -> Result<Option<Uses>, NoMemory>
     requires { IsAnySubmittable number (option_copied deck) }

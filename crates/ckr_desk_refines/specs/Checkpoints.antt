@@ -9,8 +9,7 @@ use Rattle.ckr_steps.specs.EntryRecords.{SameRecordsOutside}
 use Rattle.ckr_desk_turn.specs.Checkpoints.{check_set}
 use Rattle.ckr_desk_turn.specs.Desk.{DeskModel, jobs_of, start_of}
 use Rattle.ckr_desk_turn.specs.declared.plan.Plan.TheVariants.{Take}
-use Rattle.ckr_desk_turn.specs.declared.reply.Turn.{Turn}
-use Rattle.ckr_desk_turn.specs.Plans.{plan_of}
+use Rattle.ckr_desk_turn.specs.Turns.{MountedTurn, plan_for}
 use Rattle.ckr_desk_memory.specs.EventChanges.{is_of_run}
 use Rattle.ckr_desk_memory.specs.View.{JobsView, RunningStepView}
 use Rattle.ckr_volumes.specs.declared.layout.Layout.{Layout}
@@ -23,9 +22,9 @@ pub record IsStepOf (office : Office) (run : ℕ) (row : RunRow) (start : StepSt
   pub start_at : start_of office row ≡ Some start
 
 -- a turn takes the checkpoint that is due in the running step of a run, which is this one in memory
-pub record IsToTake (layout : Layout) (jobs : JobsView) (image : List ℕ) (desk : DeskModel) (turn : Turn) (run : ℕ) (on : RunningStepView) : Type 0 where
+pub record IsToTake (layout : Layout) (jobs : JobsView) (image : List ℕ) (desk : DeskModel) (turn : MountedTurn) (run : ℕ) (on : RunningStepView) : Type 0 where
   pub stands : StandsForDesk layout jobs image desk
-  pub planned : plan_of desk.layout (jobs_of desk) turn ≡ Take run
+  pub planned : plan_for desk.layout (jobs_of desk) turn ≡ Take run
   pub found : find (is_of_run run) jobs.running ≡ Some on
 
 -- So many records are written behind the last one of the data set for checkpoints of the run's step, and nothing else of the disk.

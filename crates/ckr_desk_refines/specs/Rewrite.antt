@@ -9,15 +9,14 @@ use Rattle.ckr_steps.specs.Places.{IsToRewrite, ShowsWithin, IsStepPlace}
 use Rattle.ckr_steps.specs.StepUnit.{HasWorked}
 use Rattle.ckr_steps.specs.Writes.{Keeps}
 use Rattle.ckr_desk_turn.specs.declared.plan.Plan.TheVariants.{Work}
-use Rattle.ckr_desk_turn.specs.declared.reply.Turn.{Turn}
+use Rattle.ckr_desk_turn.specs.Turns.{MountedTurn, plan_for}
 use Rattle.ckr_desk_turn.specs.Desk.{DeskModel, jobs_of}
-use Rattle.ckr_desk_turn.specs.Plans.{plan_of}
 use Rattle.ckr_volumes.specs.declared.layout.Layout.{Layout}
 
 -- a unit of the running step of a run asks for a rewrite in place
-pub record AsksToRewrite (layout : Layout) (old : JobsView) (before after : List ℕ) (desk : DeskModel) (turn : Turn) (job : ℕ) (on moved : RunningStepView) (place : ℕ) (image : List ℕ) (taken : ℕ) : Type 0 where
+pub record AsksToRewrite (layout : Layout) (old : JobsView) (before after : List ℕ) (desk : DeskModel) (turn : MountedTurn) (job : ℕ) (on moved : RunningStepView) (place : ℕ) (image : List ℕ) (taken : ℕ) : Type 0 where
   pub stands : StandsForDesk layout old before desk
-  pub planned : plan_of desk.layout (jobs_of desk) turn ≡ Work job
+  pub planned : plan_for desk.layout (jobs_of desk) turn ≡ Work job
   pub found : find (is_of_run job) old.running ≡ Some on
   pub run : moved.run ≡ on.run
   pub code : moved.code ≡ on.code

@@ -10,14 +10,13 @@ use Rattle.ckr_steps.specs.StepUnit.{HasWorked}
 use Rattle.ckr_steps.specs.Writes.{Keeps}
 use Rattle.ckr_desk_turn.specs.Desk.{DeskModel, jobs_of}
 use Rattle.ckr_desk_turn.specs.declared.plan.Plan.TheVariants.{Work}
-use Rattle.ckr_desk_turn.specs.declared.reply.Turn.{Turn}
-use Rattle.ckr_desk_turn.specs.Plans.{plan_of}
+use Rattle.ckr_desk_turn.specs.Turns.{MountedTurn, plan_for}
 use Rattle.ckr_volumes.specs.declared.layout.Layout.{Layout}
 
 -- a unit of the running step of a run was done, from one image to another
-pub record StandsBehindUnit (layout : Layout) (old : JobsView) (before after : List ℕ) (desk : DeskModel) (turn : Turn) (run : ℕ) (on moved : RunningStepView) (worked : Worked) : Type 0 where
+pub record StandsBehindUnit (layout : Layout) (old : JobsView) (before after : List ℕ) (desk : DeskModel) (turn : MountedTurn) (run : ℕ) (on moved : RunningStepView) (worked : Worked) : Type 0 where
   pub stands : StandsForDesk layout old before desk
-  pub planned : plan_of desk.layout (jobs_of desk) turn ≡ Work run
+  pub planned : plan_for desk.layout (jobs_of desk) turn ≡ Work run
   pub found : find (is_of_run run) old.running ≡ Some on
   pub same_run : moved.run ≡ on.run
   pub same_code : moved.code ≡ on.code

@@ -11,7 +11,8 @@ ghost use Rattle.ckr_jcl_decks.specs.Deck.{stored_deck};
 ghost use Rattle.ckr_library.specs.NameMaps.{Name};
 ghost use Rattle.ckr_desk_memory.specs.View.{JobsView, PointView};
 ghost use Rattle.ckr_desk_turn.specs.NextEvents.{Comes};
-ghost use Rattle.ckr_desk_turn.specs.Invariant.{IsDesk, IsTurnOf};
+ghost use Rattle.ckr_desk_turn.specs.Turns.{IsMountedTurnOf, MountedTurn, plan_for, turn_of};
+ghost use Rattle.ckr_desk_turn.specs.Invariant.{IsDesk};
 ghost use Rattle.ckr_desk_refines.specs.Commits.{HasCommitted, HasWithinRun};
 ghost use Rattle.ckr_desk_refines.specs.Entries.{AreOwned, AreWithin, HasEntries, IsWantedRead};
 ghost use Rattle.ckr_desk_refines.specs.EntryRefusal.{AreInEffect};
@@ -22,21 +23,18 @@ ghost use Rattle.ckr_desk_refines.specs.Standing.{StandsForDesk, StandsBut};
 ghost use Rattle.ckr_desk_turn.specs.Model.Cards.{kept_of_stored};
 ghost use Rattle.ckr_desk_turn.specs.declared.plan.Plan.TheVariants.{Tell, Wait};
 ghost use Rattle.ckr_desk_turn.specs.declared.reply.Reply.{Reply};
-ghost use Rattle.ckr_desk_turn.specs.declared.reply.Turn.{Turn};
 ghost use Rattle.ckr_desk_turn.specs.Desk.{DeskModel, behind, jobs_of, purged as purged_desk, released as released_desk, submitted as submitted_desk};
 ghost use Rattle.ckr_desk_turn.specs.Inquiries.{decide};
-ghost use Rattle.ckr_desk_turn.specs.Plans.{plan_of};
-ghost use Rattle.ckr_desk_turn.specs.Turns.{turn_of};
 ghost use Rattle.ckr_volumes.specs.declared.layout.Layout.{Layout};
 
 /// Behind the event of a turn, with the operator's answer if he is asked: where the event selects a run that goes on at a checkpoint of an earlier one, its point
 /// in memory is to stand for the entry. And where he is asked and doesn't answer, so that the run waits.
 pub fn desks_behind_turns_that_tell_stand()
-    ensures told { (layout : Layout) (old new : JobsView) (before after : List ℕ) (desk : DeskModel) (turn : Turn) (answer : Answer) (reply : Reply) (event : Event)
-        → StandsForDesk layout old before desk → IsTurnOf desk.layout turn → decide answer (plan_of desk.layout (jobs_of desk) turn) ≡ Tell reply event
+    ensures told { (layout : Layout) (old new : JobsView) (before after : List ℕ) (desk : DeskModel) (turn : MountedTurn) (answer : Answer) (reply : Reply) (event : Event)
+        → StandsForDesk layout old before desk → IsMountedTurnOf desk.layout turn → decide answer (plan_for desk.layout (jobs_of desk) turn) ≡ Tell reply event
         → KnowsItsEntry event desk old.points → HaveMoved event None old new → HasSameRecords desk.layout before after → StandsForDesk layout new after (behind event None desk) }
-    ensures waits { (layout : Layout) (old new : JobsView) (image : List ℕ) (desk : DeskModel) (turn : Turn) (answer : Answer) (job : ℕ) (code : Code)
-        → StandsForDesk layout old image desk → IsTurnOf desk.layout turn → decide answer (plan_of desk.layout (jobs_of desk) turn) ≡ Wait job code
+    ensures waits { (layout : Layout) (old new : JobsView) (image : List ℕ) (desk : DeskModel) (turn : MountedTurn) (answer : Answer) (job : ℕ) (code : Code)
+        → StandsForDesk layout old image desk → IsMountedTurnOf desk.layout turn → decide answer (plan_for desk.layout (jobs_of desk) turn) ≡ Wait job code
         → HasWaited job code old new → StandsForDesk layout new image (turn_of desk turn answer).desk }
 {}
 
@@ -110,8 +108,8 @@ pub fn points_of_wanted_entries_stand()
 
 /// The event is committed on each image that has the records.
 pub fn events_are_committed()
-    ensures told { (layout : Layout) (jobs : JobsView) (before : List ℕ) (desk : DeskModel) (turn : Turn) (answer : Answer) (reply : Reply) (event : Event)
-        → StandsForDesk layout jobs before desk → IsTurnOf desk.layout turn → decide answer (plan_of desk.layout (jobs_of desk) turn) ≡ Tell reply event
+    ensures told { (layout : Layout) (jobs : JobsView) (before : List ℕ) (desk : DeskModel) (turn : MountedTurn) (answer : Answer) (reply : Reply) (event : Event)
+        → StandsForDesk layout jobs before desk → IsMountedTurnOf desk.layout turn → decide answer (plan_for desk.layout (jobs_of desk) turn) ≡ Tell reply event
         → (image : List ℕ) → HasSameRecords desk.layout before image → HasCommitted desk.layout (behind event None desk).office image }
     ensures submitted { (layout : Layout) (jobs : JobsView) (before : List ℕ) (desk : DeskModel) (cards : List ℕ) (deck : Job)
         → StandsForDesk layout jobs before desk → suc (length desk.office.tables.runs) ≤ 9999999 → 81 ≤ length cards → stored_deck cards ≡ Ok deck

@@ -9,6 +9,7 @@ pub mod StepEnd
 pub mod Select
 pub mod RunEnd
 pub mod Readiness
+pub mod Mounts
 pub mod Restart
 pub mod Deferred
 pub mod Runs

@@ -1,9 +1,8 @@
--- A desk whose run ends between two steps: behind its last step, or since a DD of its next step isn't allocated.
-use Rattle.std.proofs.Common.{◌≡◌, ◌≤◌, ◌<◌, ◌+◌, ℕ, suc, true, false, List, [], ◌∷◌, length, refl, ap, sym, subst, Option, Some, None, Result, Ok, Err, arith}
+-- A desk whose run ends behind its last step, or since a DD of its step isn't allocated.
+use Rattle.std.proofs.Common.{◌≡◌, ◌≤◌, ◌<◌, ◌+◌, ℕ, suc, true, List, [], ◌∷◌, length, refl, ap, sym, subst, Option, Some, None, Result, Ok, Err, arith}
 use Rattle.std.specs.Prelude.{◌==◌}
 use Rattle.std.specs.List.{AllByRecursion, cons_option}
 use Rattle.std.specs.Option.{option_map, option_map_or}
-use Rattle.std.proofs.lemmas.Bool.{false≢true}
 use Rattle.ckr_base.proofs.Sequences.{find-holds}
 use Rattle.ckr_points.specs.Marks.{has_passed}
 use Rattle.ckr_points_library.specs.declared.cause.Cause.{Cause}
@@ -28,10 +27,11 @@ use Rattle.ckr_meaning.specs.declared.place.Place.TheVariants.{Before, Opened, W
 use Rattle.ckr_meaning.proofs.Room.{job_run-within}
 use Rattle.ckr_volumes.specs.declared.layout.Layout.{Layout}
 use Rattle.ckr_points.specs.declared.run.RunState.TheVariants.{Ended as EndedRun, On}
-use Rattle.ckr_points.specs.Follows.{is_within}
+use Rattle.ckr_points.specs.Follows.{own_step}
 use Rattle.ckr_points.specs.Office.{Leg, Office, cut_of, is_holder, library_after, office_after}
-use Rattle.ckr_points.specs.Restart.{after_abnormal, after_ended, after_passed_ended, place_of}
-use Rattle.ckr_points.specs.Rows.{RunRow, TablesModel, run_of}
+use Rattle.ckr_points.specs.Restart.{after_abnormal, after_ended, after_passed_ended, place_of, step_in}
+use Rattle.ckr_points.specs.Rows.{RunRow, TableSet, TablesModel, run_of, step_of_run, with_run}
+use Rattle.ckr_points.specs.Tables.{after_dispositions}
 use Rattle.ckr_points.specs.Soundness.{may_come}
 use Rattle.ckr_points_invariant.proofs.Holders.Rows.{run-other, run-same}
 use Rattle.ckr_points_invariant.proofs.Steps.Events.{led-by}
@@ -77,11 +77,30 @@ refused-inside ways standing layout stamp root owned sets refusal failed =
 
 -- ---- the end of the run
 
--- no dispositions of a step are made
-outside : (row : RunRow) (place : Place) (tables : TablesModel) → is_within place ≡ false → after_abnormal row place tables ≡ after_passed_ended row tables
-outside row (Before step) tables out = refl
-outside row (Opened step) tables out = refl
-outside row (Within step writes) tables out = absurd (false≢true (sym out))
+-- the row of a run that has ended
+abbrev ended_row : RunRow → RunRow
+ended_row row = record row { state = EndedRun; initiator = None; code = None; passed = []; lost = []; in_effect = None }
+
+-- the data sets that a run leaves whose step can't be allocated: the dispositions of the step are made where it is within it
+abbrev left_by : RunRow → OwnedStep → Place → TablesModel → Named TableSet
+left_by row owned (Before step) tables = passed_ended (has_passed row) tables.sets
+left_by row owned (Opened step) tables = passed_ended (has_passed row) tables.sets
+left_by row owned (Within step writes) tables =
+    let done : Stock TableSet = after_dispositions row owned step true tables in
+    passed_ended (has_passed (let next : RunRow = record row { passed = done.passed } in next)) done.sets
+
+refused-tables : (row : RunRow) (owned : OwnedStep) (place : Place) (tables : TablesModel) → step_of_run row (step_in place) ≡ Some owned → after_abnormal row place tables ≡ with_run (ended_row row) (record tables { sets = left_by row owned place tables })
+refused-tables row owned (Before step) tables there = refl
+refused-tables row owned (Opened step) tables there = refl
+refused-tables row owned (Within step writes) tables there = ap by there
+  where
+    by : Option OwnedStep → TablesModel
+    by o =
+        option_map_or
+        (λ owned.
+        let done : Stock TableSet = after_dispositions row owned step true tables in
+        after_passed_ended (record row { passed = done.passed }) (record tables { sets = done.sets }))
+        o tables
 
 module _ (desk : DeskModel) (is : IsDesk desk) (row : RunRow) (at : run_of desk.office.tables row.number ≡ Some row) (on : row.state ≡ On) where
   -- what the run leaves keeps to its space
@@ -96,16 +115,14 @@ module _ (desk : DeskModel) (is : IsDesk desk) (row : RunRow) (at : run_of desk.
       (find-holds (λ (leg : Leg). AreWithinSpace leg.start) (λ leg. leg.number == row.number) desk.office.legs leg is.spaced_legs holder.leg_at))
       is.spaced)))
 
-  end-rests : (library : Library) → Rests desk.office (record desk.office { tables = after_passed_ended row desk.office.tables; library = library }) row.number
-  end-rests library =
+  end-rests : (library : Library) (sets : Named TableSet) → Rests desk.office (record desk.office { tables = with_run (ended_row row) (record desk.office.tables { sets = sets }); library = library }) row.number
+  end-rests library sets =
       let was : IsAdmitted row = row-admitted desk is row.number row at in
-      let sets : Named _ = passed_ended (has_passed row) desk.office.tables.sets in
-      let next : RunRow = record row { state = EndedRun; initiator = None; code = None; passed = []; lost = []; in_effect = None } in
       record {
-        next = next;
+        next = ended_row row;
         changes = record {
-          mine = run-same (record desk.office.tables { sets = sets }) next row row.number at refl;
-          others = λ other apart. run-other (record desk.office.tables { sets = sets }) next other apart;
+          mine = run-same (record desk.office.tables { sets = sets }) (ended_row row) row row.number at refl;
+          others = λ other apart. run-other (record desk.office.tables { sets = sets }) (ended_row row) other apart;
           legs = refl;
         };
         in_state = refl;
@@ -114,7 +131,7 @@ module _ (desk : DeskModel) (is : IsDesk desk) (row : RunRow) (at : run_of desk.
         stepped = refl;
       }
 
-  module _ (ending : Ending) (same : after_ended row ending desk.office.tables ≡ after_passed_ended row desk.office.tables) where
+  module _ (ending : Ending) (sets : Named TableSet) (same : after_ended row ending desk.office.tables ≡ with_run (ended_row row) (record desk.office.tables { sets = sets })) where
     abbrev later : Office
     later = office_after (EndedEvent row.number ending, None) desk.office
 
@@ -122,7 +139,7 @@ module _ (desk : DeskModel) (is : IsDesk desk) (row : RunRow) (at : run_of desk.
     later-rests =
         let left : Library = option_map_or (λ row. library_after desk.office row ending) (run_of desk.office.tables row.number) desk.office.library in
         subst (λ (o : Option RunRow). Rests desk.office (record desk.office { tables = option_map_or (λ row. after_ended row ending desk.office.tables) o desk.office.tables; library = left }) row.number) (sym at)
-        (subst (λ tables. Rests desk.office (record desk.office { tables = tables; library = left }) row.number) (sym same) (end-rests left))
+        (subst (λ tables. Rests desk.office (record desk.office { tables = tables; library = left }) row.number) (sym same) (end-rests left sets))
 
     -- the desk behind it
     pub end-kept : Comes desk (EndedEvent row.number ending) → IsDesk (behind (EndedEvent row.number ending) None desk)
@@ -148,9 +165,10 @@ module _ (desk : DeskModel) (is : IsDesk desk) (row : RunRow) (at : run_of desk.
 
   -- behind its last step
   pub completed-kept : may_come desk.layout desk.office (EndedEvent row.number Completed, None) ≡ true → IsDesk (behind (EndedEvent row.number Completed) None desk)
-  completed-kept may = end-kept Completed refl (record { may = may; carried = refl })
+  completed-kept may = end-kept Completed (passed_ended (has_passed row) desk.office.tables.sets) refl (record { may = may; carried = refl })
 
-  -- since a DD isn't allocated
-  pub refused-kept : (dd cause first second : ℕ) → is_within (place_of row) ≡ false → may_come desk.layout desk.office (EndedEvent row.number (AllocationEnding dd cause first second), None) ≡ true → IsDesk (behind (EndedEvent row.number (AllocationEnding dd cause first second)) None desk)
-  refused-kept dd cause first second out may =
-      end-kept (AllocationEnding dd cause first second) (outside row (place_of row) desk.office.tables out) (record { may = may; carried = refl })
+  -- since a DD of its step isn't allocated, before the step or within it
+  pub refused-kept : (owned : OwnedStep) (dd cause first second : ℕ) → own_step row ≡ Some owned → may_come desk.layout desk.office (EndedEvent row.number (AllocationEnding dd cause first second), None) ≡ true
+      → IsDesk (behind (EndedEvent row.number (AllocationEnding dd cause first second)) None desk)
+  refused-kept owned dd cause first second there may =
+      end-kept (AllocationEnding dd cause first second) (left_by row owned (place_of row) desk.office.tables) (refused-tables row owned (place_of row) desk.office.tables there) (record { may = may; carried = refl })

@@ -17,6 +17,7 @@ pub mod Checkpoints
 pub mod CheckSets
 pub mod EntryForms
 pub mod Taken
+pub mod Mounts
 pub mod Turns
 pub mod Restarts
 pub mod Deferred

@@ -5,8 +5,11 @@ use Rattle.ckr_desk_turn.specs.declared.plan.Plan.{Plan}
 use Rattle.ckr_desk_turn.specs.declared.plan.Plan.TheVariants.{Rest, Tell, Work, Pass, Take, Ask, Wait}
 use Rattle.ckr_desk_turn.specs.declared.reply.Reply.{Reply}
 use Rattle.ckr_desk_turn.specs.declared.reply.Turn.{Turn}
+use Rattle.ckr_desk_turn.specs.declared.taking.Taking.{Taking}
 use Rattle.ckr_desk_turn.specs.Desk.{DeskModel, TurnDone, answered, done_by, jobs_of, work_of}
 use Rattle.ckr_desk_turn.specs.Invariant.{IsTurnOf}
+use Rattle.ckr_desk_turn.specs.Jobs.{TurnJobs}
+use Rattle.ckr_desk_turn.specs.Mounts.{plan_by}
 use Rattle.ckr_desk_turn.specs.Plans.{plan_of}
 use Rattle.ckr_desk_turn.specs.Taken.{taken_of}
 use Rattle.ckr_points.specs.Office.{Leg, Office, continued_leg, leg_of}
@@ -24,18 +27,31 @@ carried_out answer (Take job) desk = taken_of job desk
 carried_out answer (Ask inquiry) desk = answered answer (Ask inquiry) desk
 carried_out answer (Wait job code) desk = done_by (Wait job code) desk
 
--- a turn, where the operator gives this answer if he is asked
-unfoldable pub turn_of : DeskModel → Turn → Answer → TurnDone
-turn_of desk turn answer = carried_out answer (plan_of desk.layout (jobs_of desk) turn) desk
-
--- a turn with the answer that the operator gives if he is asked
-pub record AnsweredTurn : Type 0 where
+-- a turn, and what has become of the volumes that its step wants
+pub record MountedTurn : Type 0 where
   pub turn : Turn
+  pub taking : Taking
+
+-- a turn of an initiator that the layout has, whatever has become of the volumes
+abbrev pub IsMountedTurnOf : Layout → MountedTurn → Type 0
+IsMountedTurnOf layout one = IsTurnOf layout one.turn
+
+-- what it comes to
+abbrev pub plan_for : Layout → TurnJobs → MountedTurn → Plan
+plan_for layout jobs one = plan_by layout jobs.tables one.taking (plan_of layout jobs one.turn)
+
+-- a turn, where the operator gives this answer if he is asked whether a run may be restarted
+unfoldable pub turn_of : DeskModel → MountedTurn → Answer → TurnDone
+turn_of desk one answer = carried_out answer (plan_for desk.layout (jobs_of desk) one) desk
+
+-- a turn with that answer
+pub record AnsweredTurn : Type 0 where
+  pub turn : MountedTurn
   pub answer : Answer
 
--- a turn of an initiator that the layout has, whatever the operator answers
+-- a turn of an initiator that the layout has, whatever has become of the volumes and whatever the operator answers
 abbrev pub IsAnsweredTurnOf : Layout → AnsweredTurn → Type 0
-IsAnsweredTurnOf layout one = IsTurnOf layout one.turn
+IsAnsweredTurnOf layout one = IsMountedTurnOf layout one.turn
 
 -- the replies of turns, one after the other
 abbrev pub replies_of : List AnsweredTurn → DeskModel → List Reply

@@ -8,12 +8,14 @@ mod event_laws;
 mod events;
 mod failed_run;
 mod inquiry;
+mod mount_laws;
 mod opening_law;
 mod plan;
 mod queue_law;
 mod reply;
 mod restart_laws;
 mod step_laws;
+mod taking;
 mod turn_laws;
 mod unit_laws;
 
@@ -35,6 +37,7 @@ pub use events::{
 };
 pub use failed_run::FailedRun;
 pub use inquiry::Inquiry;
+pub use mount_laws::plans_with_their_volumes_stay;
 pub use opening_law::{opened_desks_are_desks, sound_events_open_to_a_desk};
 pub use plan::Plan;
 pub use queue_law::the_queue_selects_the_next_run;
@@ -47,6 +50,7 @@ pub use restart_laws::{
 pub use step_laws::{
     next_units_keep_the_desk, turns_within_a_step_keep_the_desk, units_keep_the_desk,
 };
+pub use taking::{Taking, gives_up};
 pub use turn_laws::{
     desks_behind_calls, desks_behind_steps_that_start, desks_behind_turns,
     desks_behind_turns_between_steps, restarted_jobs_leave_what_they_leave_once,

@@ -1,11 +1,11 @@
 //! Which turns restart a run, what automatic restarts do to the desk, and the holds of runs that wait for them. A law is the contract of a function that does nothing.
-ghost use Rattle.std.specs.Prelude.{◌≡◌, ◌≤◌, ℕ, Bool, true, false, None, Some};
+ghost use Rattle.std.specs.Prelude.{◌≡◌, ◌≤◌, ◌⊎◌, ℕ, Bool, true, false, None, Some};
 ghost use Rattle.std.specs.Option.{is_some};
 ghost use Rattle.arrayvec.specs.ArrayVec.{ArrayVec};
 ghost use Rattle.ckr_base.specs.declared.code.Code.{Code};
 ghost use Rattle.ckr_console.specs.declared.question.Answer.{Answer as OperatorAnswer};
 ghost use Rattle.ckr_console.specs.declared.question.Answer.TheVariants.{Hold, No, Silent, Yes};
-ghost use Rattle.ckr_base.specs.declared.programs.NextDue.TheVariants.{Checkpoint as CheckpointDue};
+ghost use Rattle.ckr_base.specs.declared.programs.NextDue.TheVariants.{Checkpoint as CheckpointDue, Finished as FinishedStep};
 ghost use Rattle.ckr_events.specs.declared.event.Event.TheVariants.{Ended as EndedEvent, Held as HeldEvent, Restarted as RestartedEvent};
 ghost use Rattle.ckr_events.specs.declared.event.Ending.TheVariants.{Coded as CodedEnding};
 ghost use Rattle.ckr_meaning.specs.EffectiveJob.{OwnedStep};
@@ -24,7 +24,7 @@ ghost use Rattle.ckr_rules.specs.declared.cases.Rule.TheVariants.{A6};
 ghost use Rattle.ckr_rules.specs.declared.cases.Verdict.TheVariants.{Checkpoint as AtCheckpoint, Denied as DeniedBy, Step as AtStep};
 ghost use Rattle.ckr_volumes.specs.declared.layout.Layout.{Layout as LayoutOfDisk};
 ghost use Rattle.ckr_desk_turn.specs.declared.reply.Reply.TheVariants.{AwaitingReply};
-ghost use Rattle.ckr_desk_turn.specs.declared.reply.Turn.{Turn};
+ghost use Rattle.ckr_desk_turn.specs.declared.taking.Taking.TheVariants.{Awaited};
 ghost use Rattle.ckr_desk_turn.specs.Codes.{asked_at_entry, asked_at_start, ended_by, initiator_of, reached_by, running_reached, verdict_for};
 ghost use Rattle.ckr_desk_turn.specs.Desk.{DeskModel, answered, at_entry, behind, done_by, jobs_of, progress_of, seen, unit_done, with_progress};
 ghost use Rattle.ckr_desk_turn.specs.Due.{next_due};
@@ -32,7 +32,7 @@ ghost use Rattle.ckr_desk_turn.specs.Invariant.{IsDesk, IsGoing};
 ghost use Rattle.ckr_desk_turn.specs.Jobs.{effect_entry, is_failed};
 ghost use Rattle.ckr_desk_turn.specs.Plans.{run_plan, start_plan};
 ghost use Rattle.ckr_desk_turn.specs.Restarts.{GoesOnBy, HasCode, IsJudged, IsJudgedOff, restart_of};
-ghost use Rattle.ckr_desk_turn.specs.Turns.{turn_of};
+ghost use Rattle.ckr_desk_turn.specs.Turns.{MountedTurn, turn_of};
 ghost use Rattle.ckr_desk_turn.specs.Units.{StepProgress, abended};
 
 /// The turn of a run that has a code within a step, that of the system failure, the one with which it waits or one that is given, comes to what
@@ -40,12 +40,12 @@ ghost use Rattle.ckr_desk_turn.specs.Units.{StepProgress, abended};
 /// the start of its step or at its checkpoint in effect, of which there is the entry. So it is, too, where the next unit of its step comes to
 /// such a code, however far the step had come.
 pub fn codes_come_to_what_the_rules_say()
-    ensures asked { (desk : DeskModel) (turn : Turn) (row : RunRow) (code : Code) (answer : OperatorAnswer) → HasCode desk turn row code → verdict_for desk.layout row code ≡ AtStep
-        → turn_of desk turn answer ≡ answered answer (asked_at_start row turn.initiator true code (reached_by (jobs_of desk) row)) desk }
-    ensures asked_at { (desk : DeskModel) (turn : Turn) (row : RunRow) (code : Code) (entry : KeptEntry) (answer : OperatorAnswer) → HasCode desk turn row code → verdict_for desk.layout row code ≡ AtCheckpoint → effect_entry desk.office.tables row ≡ Some entry
-        → turn_of desk turn answer ≡ answered answer (asked_at_entry row turn.initiator true code (reached_by (jobs_of desk) row) entry) desk }
-    ensures denied { (desk : DeskModel) (turn : Turn) (row : RunRow) (code : Code) (rule : RuleOfTable) (answer : OperatorAnswer) → HasCode desk turn row code → verdict_for desk.layout row code ≡ DeniedBy rule
-        → turn_of desk turn answer ≡ done_by (ended_by row code rule (reached_by (jobs_of desk) row)) desk }
+    ensures asked { (desk : DeskModel) (one : MountedTurn) (row : RunRow) (code : Code) (answer : OperatorAnswer) → HasCode desk one.turn row code → verdict_for desk.layout row code ≡ AtStep
+        → turn_of desk one answer ≡ answered answer (asked_at_start row one.turn.initiator true code (reached_by (jobs_of desk) row)) desk }
+    ensures asked_at { (desk : DeskModel) (one : MountedTurn) (row : RunRow) (code : Code) (entry : KeptEntry) (answer : OperatorAnswer) → HasCode desk one.turn row code → verdict_for desk.layout row code ≡ AtCheckpoint → effect_entry desk.office.tables row ≡ Some entry
+        → turn_of desk one answer ≡ answered answer (asked_at_entry row one.turn.initiator true code (reached_by (jobs_of desk) row) entry) desk }
+    ensures denied { (desk : DeskModel) (one : MountedTurn) (row : RunRow) (code : Code) (rule : RuleOfTable) (answer : OperatorAnswer) → HasCode desk one.turn row code → verdict_for desk.layout row code ≡ DeniedBy rule
+        → turn_of desk one answer ≡ done_by (ended_by row code rule (reached_by (jobs_of desk) row)) desk }
     ensures unit { (desk : DeskModel) (row : RunRow) (progress : StepProgress) (code : Code) (answer : OperatorAnswer) → verdict_for desk.layout row code ≡ AtStep
         → let moved = with_progress row.number progress desk in unit_done answer row (record { unit = abended code; progress = progress }) desk ≡ answered answer (asked_at_start row (initiator_of row) true code (running_reached (seen moved.office row.number progress))) moved }
     ensures unit_at { (desk : DeskModel) (row : RunRow) (progress : StepProgress) (code : Code) (entry : KeptEntry) (answer : OperatorAnswer) → verdict_for desk.layout row code ≡ AtCheckpoint → effect_entry desk.office.tables row ≡ Some entry
@@ -53,17 +53,19 @@ pub fn codes_come_to_what_the_rules_say()
 {}
 
 /// What a turn comes to rests on the operator's answer where he was asked: a run is restarted only where he said yes, is held only where he said
-/// hold, ends by the sixth rule only where he said no, and waits only where he was silent. Where he wasn't asked, nothing rests on him. Of a restart
-/// that a deck asks for he isn't asked: the deferred rules decide (`deferred_restarts_are_judged`).
+/// hold, ends by the sixth rule only where he said no, and waits only where he was silent, or hasn't answered whether a volume of its step may be
+/// mounted. Where he wasn't asked, nothing rests on him. Of a restart that a deck asks for he isn't asked: the deferred rules decide
+/// (`deferred_restarts_are_judged`).
 pub fn turns_rest_on_the_operators_answer()
-    ensures restarted { (desk : DeskModel) (turn : Turn) (answer : OperatorAnswer) (job initiator : ℕ) (code : Code) (checkpoint : Bool) → (turn_of desk turn answer).event ≡ Some (RestartedEvent job initiator code checkpoint)
-        → ((turn_of desk turn answer).asked ≡ true) × (answer ≡ Yes) }
-    ensures held { (desk : DeskModel) (turn : Turn) (answer : OperatorAnswer) (job writes : ℕ) (code : Code) (lengths : ArrayVec ℕ) → (turn_of desk turn answer).event ≡ Some (HeldEvent job code writes lengths)
-        → ((turn_of desk turn answer).asked ≡ true) × (answer ≡ Hold) }
-    ensures refused { (desk : DeskModel) (turn : Turn) (answer : OperatorAnswer) (job writes : ℕ) (code : Code) (lengths : ArrayVec ℕ) → IsDesk desk → 1 ≤ turn.initiator → turn.initiator ≤ desk.layout.initiators
-        → (turn_of desk turn answer).event ≡ Some (EndedEvent job (CodedEnding code (rule_number A6) writes lengths)) → ((turn_of desk turn answer).asked ≡ true) × (answer ≡ No) }
-    ensures waits { (desk : DeskModel) (turn : Turn) (answer : OperatorAnswer) → (turn_of desk turn answer).reply ≡ AwaitingReply → ((turn_of desk turn answer).asked ≡ true) × (answer ≡ Silent) }
-    ensures unasked { (desk : DeskModel) (turn : Turn) (answer other : OperatorAnswer) → (turn_of desk turn answer).asked ≡ false → turn_of desk turn other ≡ turn_of desk turn answer }
+    ensures restarted { (desk : DeskModel) (one : MountedTurn) (answer : OperatorAnswer) (job initiator : ℕ) (code : Code) (checkpoint : Bool) → (turn_of desk one answer).event ≡ Some (RestartedEvent job initiator code checkpoint)
+        → ((turn_of desk one answer).asked ≡ true) × (answer ≡ Yes) }
+    ensures held { (desk : DeskModel) (one : MountedTurn) (answer : OperatorAnswer) (job writes : ℕ) (code : Code) (lengths : ArrayVec ℕ) → (turn_of desk one answer).event ≡ Some (HeldEvent job code writes lengths)
+        → ((turn_of desk one answer).asked ≡ true) × (answer ≡ Hold) }
+    ensures refused { (desk : DeskModel) (one : MountedTurn) (answer : OperatorAnswer) (job writes : ℕ) (code : Code) (lengths : ArrayVec ℕ) → IsDesk desk → 1 ≤ one.turn.initiator → one.turn.initiator ≤ desk.layout.initiators
+        → (turn_of desk one answer).event ≡ Some (EndedEvent job (CodedEnding code (rule_number A6) writes lengths)) → ((turn_of desk one answer).asked ≡ true) × (answer ≡ No) }
+    ensures waits { (desk : DeskModel) (one : MountedTurn) (answer : OperatorAnswer) → (turn_of desk one answer).reply ≡ AwaitingReply
+        → (one.taking ≡ Awaited) ⊎ (((turn_of desk one answer).asked ≡ true) × (answer ≡ Silent)) }
+    ensures unasked { (desk : DeskModel) (one : MountedTurn) (answer other : OperatorAnswer) → (turn_of desk one answer).asked ≡ false → turn_of desk one other ≡ turn_of desk one answer }
 {}
 
 /// Where the rules restart a run with a code, the event of its restart may come and carries what the job gives: at the start of its step, or
@@ -98,7 +100,8 @@ pub fn restarted_runs_stand_at_their_point()
 {}
 
 /// A run that is restarted isn't marked any more. At the start of its step it has no running step, and its next turn starts the step again.
-/// At its checkpoint its step goes on behind the records taken and the writes that the entry tells, and this checkpoint isn't due once more.
+/// At its checkpoint its step goes on behind the records taken and the writes that the entry tells: this checkpoint isn't due once more, nor is the
+/// end of the step.
 pub fn restarted_runs_go_on()
     ensures unmarked { (desk : DeskModel) (job initiator : ℕ) (code : Code) (checkpoint : Bool) → is_failed (jobs_of (behind (RestartedEvent job initiator code checkpoint) None desk)) job ≡ false }
     ensures stopped { (desk : DeskModel) (job initiator : ℕ) (code : Code) → progress_of (behind (RestartedEvent job initiator code false) None desk) job ≡ None }
@@ -110,6 +113,7 @@ pub fn restarted_runs_go_on()
     ensures progress { (desk : DeskModel) (row : RunRow) (initiator : ℕ) (code : Code) (entry : KeptEntry) → run_of desk.office.tables row.number ≡ Some row → effect_entry desk.office.tables row ≡ Some entry
         → progress_of (behind (restart_of row initiator code true) None desk) row.number ≡ Some (at_entry row.number entry.point).progress }
     ensures served { (start : StepStart) (job : ℕ) (point : EntryPoint) → next_due start (at_entry job point).progress ≡ CheckpointDue → ⊥ }
+    ensures unfinished { (start : StepStart) (job : ℕ) (point : EntryPoint) (rc : ℕ) → next_due start (at_entry job point).progress ≡ FinishedStep rc → ⊥ }
 {}
 
 /// A run that is held has no running step any more, and isn't marked.

@@ -23,12 +23,11 @@ ghost use Rattle.ckr_points_invariant.specs.Invariant.{AreAlike, IsFree, IsKept}
 ghost use Rattle.ckr_points_decks.specs.Cards.{kept_of_stored};
 ghost use Rattle.ckr_desk_turn.specs.Allocation.{allocation_of};
 ghost use Rattle.ckr_desk_turn.specs.Select.{run_on_initiator};
-ghost use Rattle.ckr_desk_turn.specs.declared.reply.Turn.{Turn};
 ghost use Rattle.ckr_desk_turn.specs.Desk.{DeskModel, jobs_of, purged as purged_desk, released as released_desk, submitted as submitted_desk};
-ghost use Rattle.ckr_desk_turn.specs.Turns.{AnsweredTurn, BeginsOn, IsAnsweredTurnOf, carried_out, desk_after, turn_of};
+ghost use Rattle.ckr_desk_turn.specs.Turns.{AnsweredTurn, BeginsOn, IsAnsweredTurnOf, IsMountedTurnOf, MountedTurn, carried_out, desk_after, turn_of};
 ghost use Rattle.ckr_desk_turn.specs.Plans.{between_plan, free_plan, run_plan, start_plan};
 ghost use Rattle.ckr_desk_turn.specs.NextEvents.{EventComes};
-ghost use Rattle.ckr_desk_turn.specs.Invariant.{IsDesk, IsTurnOf, Keeps};
+ghost use Rattle.ckr_desk_turn.specs.Invariant.{IsDesk, Keeps};
 
 /// A turn of an initiator that no run is on keeps the desk: a queued run is selected, a released one goes on, ends, is held again or stays
 /// released by the operator's answer, or none may be selected, or there is nothing to fail. So does the turn by which a run ends behind its
@@ -66,9 +65,9 @@ pub fn desks_behind_steps_that_start()
         → Keeps desk (carried_out answer (run_plan desk.layout (jobs_of desk) fail row) desk) }
 {}
 
-/// Each turn of an initiator of the layout keeps the desk, whatever the operator answers.
+/// Each turn of an initiator of the layout keeps the desk, whatever becomes of the volumes that its step wants, and whatever the operator answers.
 pub fn turns_keep_the_desk()
-    ensures { (desk : DeskModel) (turn : Turn) (answer : OperatorAnswer) → IsDesk desk → 1 ≤ turn.initiator → turn.initiator ≤ desk.layout.initiators → Keeps desk (turn_of desk turn answer) }
+    ensures { (desk : DeskModel) (one : MountedTurn) (answer : OperatorAnswer) → IsDesk desk → IsMountedTurnOf desk.layout one → Keeps desk (turn_of desk one answer) }
 {}
 
 /// So do turns one after the other: the desk behind them is as its events have brought it about, its events are kept in the layout that
@@ -76,9 +75,9 @@ pub fn turns_keep_the_desk()
 pub fn desks_behind_turns()
     ensures behind { (turns : List AnsweredTurn) (desk : DeskModel) → IsDesk desk → AllByRecursion (IsAnsweredTurnOf desk.layout) turns → IsDesk (desk_after turns desk) }
     ensures kept { (turns : List AnsweredTurn) (desk : DeskModel) → IsDesk desk → AllByRecursion (IsAnsweredTurnOf desk.layout) turns → IsKept desk.layout (desk_after turns desk).office }
-    ensures next { (turns : List AnsweredTurn) (turn : Turn) (answer : OperatorAnswer) (desk : DeskModel) → IsDesk desk → AllByRecursion (IsAnsweredTurnOf desk.layout) turns → IsTurnOf desk.layout turn
-        → EventComes (desk_after turns desk) (turn_of (desk_after turns desk) turn answer).event }
-    ensures one { (desk : DeskModel) (turn : Turn) (answer : OperatorAnswer) → IsDesk desk → IsTurnOf desk.layout turn → EventComes desk (turn_of desk turn answer).event × IsKept desk.layout (turn_of desk turn answer).desk.office }
+    ensures next { (turns : List AnsweredTurn) (one : MountedTurn) (answer : OperatorAnswer) (desk : DeskModel) → IsDesk desk → AllByRecursion (IsAnsweredTurnOf desk.layout) turns → IsMountedTurnOf desk.layout one
+        → EventComes (desk_after turns desk) (turn_of (desk_after turns desk) one answer).event }
+    ensures one { (desk : DeskModel) (one : MountedTurn) (answer : OperatorAnswer) → IsDesk desk → IsMountedTurnOf desk.layout one → EventComes desk (turn_of desk one answer).event × IsKept desk.layout (turn_of desk one answer).desk.office }
 {}
 
 /// What a run that has ended leaves is what its job leaves that is run once, alone and without interruption from the library on which it was selected, to its

@@ -6,5 +6,7 @@ pub mod Select
 pub mod Lists
 pub mod Counts
 pub mod Pins
-pub mod Mounts
+pub mod Assignments
 pub mod UnitChanges
+pub mod UseCounts
+pub mod MountChanges

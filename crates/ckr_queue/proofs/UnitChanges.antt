@@ -6,7 +6,7 @@ use Rattle.ckr_base.proofs.Numbers.{equal-true}
 use Rattle.ckr_base.proofs.Sequences.{all-at}
 use Rattle.ckr_queue.specs.Units.{AreUnits, UnitTable, are_mounted, is_among, is_carried, is_mounted, is_used, no_units, unit_for_of, with_fewer_uses, with_more_uses, with_volume}
 use Rattle.ckr_queue.proofs.Counts.{count-no}
-use Rattle.ckr_queue.proofs.Mounts.{unit-for, units-later}
+use Rattle.ckr_queue.proofs.Assignments.{unit-for, units-later}
 use Rattle.ckr_queue.proofs.Pins.{used-fewer, used-more}
 
 none-carried : (volume count more : ℕ) → count_by (is_carried volume) (take count (replicate more None)) ≡ 0

@@ -1,8 +1,9 @@
 //! What holds of every queue, and of the units. Each law is the contract of a function that does nothing.
-ghost use Rattle.std.specs.Prelude.{◌≡◌, ◌↔◌, ℕ, List, IsTrue, false};
+ghost use Rattle.std.specs.Prelude.{◌≡◌, ◌↔◌, ◌≤◌, ℕ, List, IsTrue, false};
 ghost use Rattle.std.specs.List.{list_any};
 ghost use Rattle.ckr_queue.specs.declared.entry.QueueEntry.{QueueEntry as EntryOfQueue};
 ghost use Rattle.ckr_queue.specs.declared.entry.Selection.TheVariants.{Job as JobNext, Idle as NoneNext};
+ghost use Rattle.ckr_queue.specs.Mounts.{no_mounts, AreMounts};
 ghost use Rattle.ckr_queue.specs.Queue.{may_start, rises, selection_of, IsLowest};
 ghost use Rattle.ckr_queue.specs.Units.{after_mounts, is_among, AreAllMounted, AreUnits, ArePinnedAndFit, IsGivenUnit, UnitTable};
 
@@ -26,4 +27,9 @@ pub fn pinned_volume_gets_unit()
 /// Where the volumes that are pinned need no more units than are free, all of them can be mounted, one after another.
 pub fn pinned_volumes_are_mounted()
     ensures { (t : UnitTable) (volumes : List ℕ) → AreUnits t → ArePinnedAndFit t volumes → AreAllMounted volumes t (after_mounts volumes t) }
+{}
+
+/// At first all units are empty, and no volume is in use.
+pub fn mounts_begin_empty()
+    ensures { (count : ℕ) → count ≤ 16 → AreMounts (no_mounts count) }
 {}

@@ -182,6 +182,13 @@ impl Units {
             .any(|unit| is_carried(*unit, volume))
     }
 
+    /// Whether each of the volumes is on a unit.
+    pub fn are_mounted(&self, volumes: &[u8]) -> bool
+        ensures { result ≡ are_mounted self.now volumes.now }
+    {
+        volumes.iter().all(|volume| self.is_mounted(*volume))
+    }
+
     /// The lowest unit that carries nothing.
     fn first_empty(&self) -> Option<usize>
         ensures place { result ≡ position is_none (units_in self.now) }

@@ -7,30 +7,30 @@ use Rattle.ckr_desk.specs.Model.Reply.{Reply}
 use Rattle.ckr_desk.specs.Model.Rows.{TablesModel}
 use Rattle.ckr_desk.specs.Model.Turn.{Turn}
 use Rattle.ckr_desk.specs.Requests.{behind_call, spelled}
-use Rattle.ckr_desk.specs.State.{RoomyDesk}
-use Rattle.ckr_desk.specs.Turn.{asks, behind_turn, event_of_turn, operator_behind, reply_of, turn_fits}
+use Rattle.ckr_desk.specs.State.{MachineRoomView, RoomyDesk, room_at_first}
+use Rattle.ckr_desk.specs.Turn.{asks, behind_turn, event_of_turn, reply_of, room_behind_answer, turn_fits, untaken}
 
 -- ---- the operator in office
 
--- a desk between two calls, and what the operator in office answers, or None where nobody is in office
+-- a desk between two calls, with its machine room: what the operator in office answers, or None where nobody is in office, and what its units carry
 pub record AttendedDesk : Type 0 where
   pub state : RoomyDesk
-  pub operator : Option Answering
+  pub machine_room : MachineRoomView
 
 -- a turn in which he gives his answer, if he is asked: the reply, the bytes of its event, and whether the book has room for it
 abbrev pub attended_reply : AttendedDesk → Turn → Reply
-attended_reply desk turn = reply_of desk.state turn (restart_answer desk.operator)
+attended_reply desk turn = reply_of desk.state (untaken turn) (restart_answer desk.machine_room.operator)
 
 abbrev pub attended_event : AttendedDesk → Turn → List (List ℕ)
-attended_event desk turn = spelled (event_of_turn desk.state turn (restart_answer desk.operator))
+attended_event desk turn = spelled (event_of_turn desk.state (untaken turn) (restart_answer desk.machine_room.operator))
 
 abbrev pub attended_fits : AttendedDesk → Turn → Bool
-attended_fits desk turn = turn_fits desk.state turn (restart_answer desk.operator)
+attended_fits desk turn = turn_fits desk.state (untaken turn) (restart_answer desk.machine_room.operator)
 
 unfoldable pub behind_attended : AttendedDesk → Turn → AttendedDesk
 behind_attended desk turn = record {
-  state = behind_turn desk.state turn (restart_answer desk.operator);
-  operator = operator_behind (asks desk.state turn (restart_answer desk.operator)) desk.operator;
+  state = behind_turn desk.state (untaken turn) (restart_answer desk.machine_room.operator);
+  machine_room = room_behind_answer (asks desk.state (untaken turn) (restart_answer desk.machine_room.operator)) desk.machine_room;
 }
 
 -- ---- those who take office later
@@ -46,8 +46,8 @@ pub record StaffedDesk : Type 0 where
 
 -- a desk at its opening: the first of these operators is in office
 abbrev pub staffed_with : List Answering → RoomyDesk → StaffedDesk
-staffed_with [] state = record { attended = record { state = state; operator = None }; roster = record { later = []; place = 0 } }
-staffed_with (first ∷ later) state = record { attended = record { state = state; operator = Some first }; roster = record { later = later; place = 1 } }
+staffed_with [] state = record { attended = record { state = state; machine_room = room_at_first state.desk.layout None }; roster = record { later = []; place = 0 } }
+staffed_with (first ∷ later) state = record { attended = record { state = state; machine_room = room_at_first state.desk.layout (Some first) }; roster = record { later = later; place = 1 } }
 
 -- the layout, and the tables behind the events
 abbrev pub layout_at : StaffedDesk → Layout
@@ -68,7 +68,7 @@ with_call desk call = with_attended desk (record desk.attended { state = behind_
 abbrev pub shifted_to : StaffedDesk → List Answering → StaffedDesk
 shifted_to desk [] = desk
 shifted_to desk (next ∷ later) = record {
-  attended = record desk.attended { operator = Some next };
+  attended = record desk.attended { machine_room = record desk.attended.machine_room { operator = Some next } };
   roster = record { later = later; place = suc desk.roster.place };
 }
 

@@ -6,7 +6,7 @@ ghost use Rattle.ckr_desk.specs.Model.OpenImages.{event_records};
 ghost use Rattle.ckr_desk.specs.CallOutcomes.{HasComeTo, KeepsDesk};
 ghost use Rattle.ckr_desk.specs.Requests.{behind_call, call_fits, came_by, event_in, spelled};
 ghost use Rattle.ckr_desk.specs.Soundness.{IsTrusted, KeepsWithin, state_of};
-ghost use Rattle.ckr_desk.specs.State.{IsOpen, disk_of, layout_of, operator_of, tables_in_memory};
+ghost use Rattle.ckr_desk.specs.State.{IsOpen, disk_of, layout_of, machine_room_of, tables_in_memory};
 ghost use Rattle.ckr_service.specs.Stops.{Goes, Has, Stopped};
 ghost use Rattle.ckr_cards.specs.Session.Handed.{Deck, Order as Command, Refusal};
 ghost use Rattle.ckr_service.specs.Calls.{Accepted, Changed, DeckRefused, JobsListed, LineRefused, Listed, SetsListed, call_for, change_answer, is_refusal, lines_of, list_answer, may_change, name_in, shift_answer};
@@ -89,7 +89,7 @@ fn change_job<D: Disk, O: Operator>(
         (behind_call (state_of D.content desk.old) (call_for change (tables_in_memory desk.old) job)) desk.old desk.new result }
     ensures told { D.told → OnOk result (event_records (layout_of desk.old) (D.content (disk_of desk.new))
         ≡ event_records (layout_of desk.old) (D.content (disk_of desk.old)) ++ spelled (event_in (call_for change (tables_in_memory desk.old) job))) }
-    ensures operator { operator_of desk.new ≡ operator_of desk.old }
+    ensures machine_room { machine_room_of desk.new ≡ machine_room_of desk.old }
     ensures keeps { KeepsDesk D.content D.may_leave D.faults D.size desk.old desk.new result }
     ensures kept { IsOpen desk.old → IsTrusted D.told D.content D.may_leave desk.old
         → KeepsWithin D.content D.moment D.left_since D.size desk.old desk.new (came_by result (spelled (event_in (call_for change (tables_in_memory desk.old) job)))) }
@@ -300,7 +300,7 @@ impl<D: Disk, O: Operator> Clerk<D, O> {
         ensures after { staffed_of D.content self.new ≡ shifted (staffed_of D.content self.old) }
         ensures refused { OnOk result (self.new.refused ≡ (self.old.refused || is_refusal (shift_answer number self.old.roster.place self.old.roster.later))) }
         ensures text { OnOk result (out.new ≡ out.old ++ answer_text (shift_answer number self.old.roster.place self.old.roster.later)) }
-        ensures desk { self.new.desk ≡ record self.old.desk { operator = operator_of self.new.desk } }
+        ensures desk { self.new.desk ≡ record self.old.desk { machine_room = machine_room_of self.new.desk } }
         ensures tally { self.new.tally ≡ self.old.tally }
         ensures halt { IfErr result (λ halt. halt ≡ Halt.Memory) }
     {

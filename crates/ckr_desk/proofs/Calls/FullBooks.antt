@@ -7,7 +7,7 @@ use Rattle.ckr_events.specs.declared.event.Event.{Event}
 use Rattle.ckr_desk_refines.specs.Moves.{event_in as event_in_plan}
 use Rattle.ckr_desk_turn.specs.Inquiries.{decide}
 use Rattle.ckr_desk_turn.specs.declared.plan.Plan.{Plan}
-use Rattle.ckr_desk_turn.specs.declared.reply.Turn.{Turn}
+use Rattle.ckr_desk_turn.specs.Turns.{MountedTurn}
 use Rattle.ckr_points.specs.Restart.{Decked}
 use Rattle.ckr_desk.specs.declared.error.DeskError.{DeskError}
 use Rattle.ckr_desk.specs.declared.error.DeskError.TheVariants.{NoMemory, DiskFault, BookFull, Stopped}
@@ -24,7 +24,7 @@ no-room room (Some event) need left full = nat_le-beyond (need_of event) room (s
 fails-full : (room : ℕ) (event : Option Event) (error : DeskError) (need left : ℕ) → error ≡ BookFull need left → FailsBy room event error → has_room room event ≡ false
 fails-full room event error need left is cause = no-room room event need left (subst (FailsBy room event) is cause)
 
-pub turn-full : (s : RoomyDesk) (turn : Turn) (answer : Answer) (error : DeskError) (need left : ℕ) → error ≡ BookFull need left → FailsBy s.room (event_of_turn s turn answer) error → turn_fits s turn answer ≡ false
+pub turn-full : (s : RoomyDesk) (turn : MountedTurn) (answer : Answer) (error : DeskError) (need left : ℕ) → error ≡ BookFull need left → FailsBy s.room (event_of_turn s turn answer) error → turn_fits s turn answer ≡ false
 unfolding turn_fits
 turn-full s turn answer error need left is cause = fails-full s.room (event_of_turn s turn answer) error need left is cause
 
@@ -34,11 +34,11 @@ call-full s call error need left is cause = fails-full s.room (event_in call) er
 
 -- ---- there is room for the event of a call that is done
 
-pub turn-has_room : {T : Type 0} (s : RoomyDesk) (result : Result T DeskError) (turn : Turn) (answer : Answer) → OnOk result (turn_fits s turn answer ≡ true) → OnOk result (has_room s.room (event_of_turn s turn answer) ≡ true)
+pub turn-has_room : {T : Type 0} (s : RoomyDesk) (result : Result T DeskError) (turn : MountedTurn) (answer : Answer) → OnOk result (turn_fits s turn answer ≡ true) → OnOk result (has_room s.room (event_of_turn s turn answer) ≡ true)
 unfolding turn_fits
 turn-has_room s result turn answer fits = fits
 
-pub turn-fits : (s : RoomyDesk) (turn : Turn) (answer : Answer) → has_room s.room (event_of_turn s turn answer) ≡ true → turn_fits s turn answer ≡ true
+pub turn-fits : (s : RoomyDesk) (turn : MountedTurn) (answer : Answer) → has_room s.room (event_of_turn s turn answer) ≡ true → turn_fits s turn answer ≡ true
 unfolding turn_fits
 turn-fits s turn answer room = room
 

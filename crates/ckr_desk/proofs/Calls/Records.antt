@@ -3,7 +3,6 @@ use Rattle.std.proofs.Common.{◌≡◌, ◌++◌, ℕ, List, [], Bool, true, fa
 use Rattle.std.proofs.lemmas.Option.{none-some, same_Some}
 use Rattle.std.specs.Option.{option_map, option_map_or}
 use Rattle.ckr_book.specs.Book.{room_of}
-use Rattle.ckr_console.specs.Answering.{Answering}
 use Rattle.ckr_desk_memory.specs.View.{JobsView}
 use Rattle.ckr_library.specs.declared.sets.Content.{Content}
 use Rattle.ckr_library.specs.declared.sets.Content.TheVariants.{Plain, Checkpoints}
@@ -27,7 +26,7 @@ use Rattle.ckr_desk.specs.declared.error.DeskError.{DeskError}
 use Rattle.ckr_desk.specs.declared.error.DeskError.TheVariants.{NoMemory, DiskFault, BookFull, Stopped}
 use Rattle.ckr_desk.specs.Records.{ReadingCause}
 use Rattle.ckr_desk.specs.Soundness.{IsTrusted, state_of}
-use Rattle.ckr_desk.specs.State.{DeskView}
+use Rattle.ckr_desk.specs.State.{DeskView, MachineRoomView}
 use Rattle.ckr_desk.specs.NoChange.{StaysBy}
 
 -- a data set that no run holds is one of the tables
@@ -47,9 +46,9 @@ free-stands layout tables name set stand is = by (entry_at tables.sets name) ref
     by (Some table) at is = subst (StandsIn layout) (set-is table.set.content tables name table.set set is) (each-at (λ (table : TableSet). StandsIn layout table.set) tables.sets stand name table at)
 
 module _ {D : Type 0} (told : Type 0) (content : D → List ℕ) (may_leave : D → List ℕ → Type 0) (moment : D → ℕ) (left_since : D → ℕ → List ℕ → Type 0) where
-  pub read-before : (jobs : JobsView) (operator : Option Answering) (old new : StoreView D) → new ≡ record old { disk = new.disk } → OnlyReads content may_leave moment left_since old.disk new.disk
-      → IsAsBefore told content may_leave (record { store = old; jobs = jobs; operator = operator }) (record { store = new; jobs = jobs; operator = operator })
-  read-before jobs operator old new kept reads = record {
+  pub read-before : (jobs : JobsView) (room : MachineRoomView) (old new : StoreView D) → new ≡ record old { disk = new.disk } → OnlyReads content may_leave moment left_since old.disk new.disk
+      → IsAsBefore told content may_leave (record { store = old; jobs = jobs; machine_room = room }) (record { store = new; jobs = jobs; machine_room = room })
+  read-before jobs room old new kept reads = record {
     jobs = record { tables = refl; running = refl; failed = refl; points = λ run off. refl };
     layout = ap (λ (s : StoreView D). s.layout) kept;
     room = ap (λ (s : StoreView D). room_of s.book) kept;
@@ -57,26 +56,26 @@ module _ {D : Type 0} (told : Type 0) (content : D → List ℕ) (may_leave : D 
     none_new = reads.none_new;
   }
 
-  module _ (jobs : JobsView) (operator : Option Answering) (old new : StoreView D) (now : DeskView D) (view : record { store = old; jobs = jobs; operator = operator } ≡ now)
+  module _ (jobs : JobsView) (room : MachineRoomView) (old new : StoreView D) (now : DeskView D) (view : record { store = old; jobs = jobs; machine_room = room } ≡ now)
       (kept : new ≡ record old { disk = new.disk }) (reads : OnlyReads content may_leave moment left_since old.disk new.disk) where
-    pub state-read : state_of content (record { store = new; jobs = jobs; operator = operator }) ≡ state_of content now
-    state-read = state-same told content may_leave (record { store = old; jobs = jobs; operator = operator }) (record { store = new; jobs = jobs; operator = operator }) (read-before jobs operator old new kept reads) ∙ ap (state_of content) view
+    pub state-read : state_of content (record { store = new; jobs = jobs; machine_room = room }) ≡ state_of content now
+    state-read = state-same told content may_leave (record { store = old; jobs = jobs; machine_room = room }) (record { store = new; jobs = jobs; machine_room = room }) (read-before jobs room old new kept reads) ∙ ap (state_of content) view
 
-    pub trusted-read : IsTrusted told content may_leave now → IsTrusted told content may_leave (record { store = new; jobs = jobs; operator = operator })
+    pub trusted-read : IsTrusted told content may_leave now → IsTrusted told content may_leave (record { store = new; jobs = jobs; machine_room = room })
     trusted-read trusted =
-        trusted-same told content may_leave (record { store = old; jobs = jobs; operator = operator }) (record { store = new; jobs = jobs; operator = operator }) (read-before jobs operator old new kept reads)
+        trusted-same told content may_leave (record { store = old; jobs = jobs; machine_room = room }) (record { store = new; jobs = jobs; machine_room = room }) (read-before jobs room old new kept reads)
         (subst (IsTrusted told content may_leave) (sym view) trusted)
 
     pub events-read : event_records now.store.layout (content new.disk) ≡ event_records now.store.layout (content now.store.disk) ++ []
     events-read = ap (event_records now.store.layout) (reads.same ∙ ap (λ (s : DeskView D). content s.store.disk) view) ∙ sym (append-nil (event_records now.store.layout (content now.store.disk)))
 
   -- what is told of the records of a data set holds of the desk of the events, where it is trusted
-  pub of-desk : (jobs : JobsView) (operator : Option Answering) (store : StoreView D) (now : DeskView D) (name : Name) (set : Option DataSet) → record { store = store; jobs = jobs; operator = operator } ≡ now
+  pub of-desk : (jobs : JobsView) (room : MachineRoomView) (store : StoreView D) (now : DeskView D) (name : Name) (set : Option DataSet) → record { store = store; jobs = jobs; machine_room = room } ≡ now
       → ((desk : DeskModel) (image : List ℕ) (layout : Layout) → StandsForDesk layout jobs image desk → option_map (λ (its : DataSet). records_on image layout its its.length) set ≡ records_of desk name)
       → IsTrusted told content may_leave now → option_map (λ (its : DataSet). records_on (content store.disk) store.layout its its.length) set ≡ records_of (state_of content now).desk name
-  of-desk jobs operator store now name set view so trusted =
+  of-desk jobs room store now name set view so trusted =
       let its = subst (IsTrusted told content may_leave) (sym view) trusted in
-      so (state_of content (record { store = store; jobs = jobs; operator = operator })).desk (content store.disk) store.layout its.stands
+      so (state_of content (record { store = store; jobs = jobs; machine_room = room })).desk (content store.disk) store.layout its.stands
       ∙ ap (λ (s : DeskView D). records_of (state_of content s).desk name) view
 
 -- a desk that hasn't stopped
@@ -108,10 +107,10 @@ module _ {D : Type 0} (faults : D → ℕ) (old new : StoreView D) where
   same-layout (BookFull need room) cause = absurd cause
   same-layout (Stopped fault) cause = absurd cause
 
-  pub reading-stays : (content : D → List ℕ) (may_leave : D → List ℕ → Type 0) (moment : D → ℕ) (left_since : D → ℕ → List ℕ → Type 0) (jobs : JobsView) (operator : Option Answering) → OnlyReads content may_leave moment left_since old.disk new.disk
-      → (error : DeskError) → ReadingCause faults old new error → StaysBy content may_leave faults (record { store = old; jobs = jobs; operator = operator }) (record { store = new; jobs = jobs; operator = operator }) error
-  reading-stays content may_leave moment left_since jobs operator reads NoMemory cause =
-      read-unchanged content may_leave (record { store = old; jobs = jobs; operator = operator }) (record { store = new; jobs = jobs; operator = operator }) moment left_since (record { tables = refl; running = refl; failed = refl; points = refl }) cause reads
-  reading-stays content may_leave moment left_since jobs operator reads DiskFault cause = ap (λ (s : StoreView D). s.fault) cause.1
-  reading-stays content may_leave moment left_since jobs operator reads (BookFull need room) cause = absurd cause
-  reading-stays content may_leave moment left_since jobs operator reads (Stopped fault) cause = absurd cause
+  pub reading-stays : (content : D → List ℕ) (may_leave : D → List ℕ → Type 0) (moment : D → ℕ) (left_since : D → ℕ → List ℕ → Type 0) (jobs : JobsView) (room : MachineRoomView) → OnlyReads content may_leave moment left_since old.disk new.disk
+      → (error : DeskError) → ReadingCause faults old new error → StaysBy content may_leave faults (record { store = old; jobs = jobs; machine_room = room }) (record { store = new; jobs = jobs; machine_room = room }) error
+  reading-stays content may_leave moment left_since jobs room reads NoMemory cause =
+      read-unchanged content may_leave (record { store = old; jobs = jobs; machine_room = room }) (record { store = new; jobs = jobs; machine_room = room }) moment left_since (record { tables = refl; running = refl; failed = refl; points = refl }) cause reads
+  reading-stays content may_leave moment left_since jobs room reads DiskFault cause = ap (λ (s : StoreView D). s.fault) cause.1
+  reading-stays content may_leave moment left_since jobs room reads (BookFull need left) cause = absurd cause
+  reading-stays content may_leave moment left_since jobs room reads (Stopped fault) cause = absurd cause

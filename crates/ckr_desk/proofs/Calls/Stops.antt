@@ -2,7 +2,6 @@
 use Rattle.std.proofs.Common.{◌≡◌, ◌≤◌, ◌<◌, ◌&&◌, ℕ, List, IsTrue, Option, None, Some, true, ⊎_elim, inl, inr, ap, subst, sym, refl, arith, ◌∙◌}
 use Rattle.ckr_base.proofs.Options.{some-not-none}
 use Rattle.ckr_book.specs.Book.{IsBeforeOrAfter, room_of}
-use Rattle.ckr_console.specs.Answering.{Answering}
 use Rattle.ckr_events.specs.declared.event.Event.{Event}
 use Rattle.ckr_events.specs.Event.{spelling}
 use Rattle.ckr_desk_memory.specs.EventChanges.{points_behind}
@@ -34,7 +33,7 @@ use Rattle.ckr_desk.specs.declared.error.DeskError.TheVariants.{NoMemory, DiskFa
 use Rattle.ckr_desk.specs.Calls.{HasGoneOn, HasSameJobs, IsLeftBy, IsSame, NotEntered, NotKept, may_keep}
 use Rattle.ckr_desk.specs.Preparation.{NotReady}
 use Rattle.ckr_desk.specs.Rewrite.{OpensSame}
-use Rattle.ckr_desk.specs.State.{DeskView}
+use Rattle.ckr_desk.specs.State.{DeskView, MachineRoomView}
 
 module _ {D : Type 0} (told : Type 0) (content : D → List ℕ) (may_leave : D → List ℕ → Type 0) (moment : D → ℕ) (left_since : D → ℕ → List ℕ → Type 0) (size : D → ℕ) where
   -- what only reads leaves what was there
@@ -114,20 +113,20 @@ module _ {D : Type 0} (told : Type 0) (content : D → List ℕ) (may_leave : D 
       (now-left old sound is_open only) (λ image both. inl both)
 
 -- What jobs do that took memory for an event, those before that have the same tables, steps and failed runs do.
-module _ {D : Type 0} (event : Event) (deck : Option Job) (store : StoreView D) (one two : JobsView) (first second : Option Answering) (desk : two.tables.desk ≡ one.tables.desk) where
-  prepared-may : may_keep event deck (record { store = store; jobs = two; operator = second }) ≡ true → may_keep event deck (record { store = store; jobs = one; operator = first }) ≡ true
+module _ {D : Type 0} (event : Event) (deck : Option Job) (store : StoreView D) (one two : JobsView) (first second : MachineRoomView) (desk : two.tables.desk ≡ one.tables.desk) where
+  prepared-may : may_keep event deck (record { store = store; jobs = two; machine_room = second }) ≡ true → may_keep event deck (record { store = store; jobs = one; machine_room = first }) ≡ true
   prepared-may might = subst (λ (t : TablesModel). (follows store.layout t event deck && may_count event t.sets) ≡ true) desk might
 
   pub prepared-left : (content : D → List ℕ) (may_leave : D → List ℕ → Type 0) (moment : D → ℕ) (left_since : D → ℕ → List ℕ → Type 0) (size : D → ℕ) (new : D)
-      → EachSince moment left_since store.disk new (IsLeftBy content may_leave size event deck (record { store = store; jobs = two; operator = second }))
-      → EachSince moment left_since store.disk new (IsLeftBy content may_leave size event deck (record { store = store; jobs = one; operator = first }))
+      → EachSince moment left_since store.disk new (IsLeftBy content may_leave size event deck (record { store = store; jobs = two; machine_room = second }))
+      → EachSince moment left_since store.disk new (IsLeftBy content may_leave size event deck (record { store = store; jobs = one; machine_room = first }))
   prepared-left content may_leave moment left_since size new left =
-      in_other_words moment left_since store.disk new (IsLeftBy content may_leave size event deck (record { store = store; jobs = two; operator = second }))
-      (IsLeftBy content may_leave size event deck (record { store = store; jobs = one; operator = first })) left
+      in_other_words moment left_since store.disk new (IsLeftBy content may_leave size event deck (record { store = store; jobs = two; machine_room = second }))
+      (IsLeftBy content may_leave size event deck (record { store = store; jobs = one; machine_room = first })) left
       (λ image by. ⊎_elim (λ before. inl before) (λ behind. inr (prepared-may behind.0, behind.1, behind.2)) by)
 
   module _ (running : two.running ≡ one.running) (failed : two.failed ≡ one.failed) (points : two.points ≡ one.points) where
-    pub prepared-gone : (new : DeskView D) → HasGoneOn event deck (record { store = store; jobs = two; operator = second }) new → HasGoneOn event deck (record { store = store; jobs = one; operator = first }) new
+    pub prepared-gone : (new : DeskView D) → HasGoneOn event deck (record { store = store; jobs = two; machine_room = second }) new → HasGoneOn event deck (record { store = store; jobs = one; machine_room = first }) new
     prepared-gone new gone = record {
       might = prepared-may gone.might;
       moved = record {
@@ -143,14 +142,14 @@ module _ {D : Type 0} (event : Event) (deck : Option Job) (store : StoreView D) 
       room = gone.room;
     }
 
-    same-as-before : (new : DeskView D) → HasSameJobs (record { store = store; jobs = two; operator = second }) new → HasSameJobs (record { store = store; jobs = one; operator = first }) new
+    same-as-before : (new : DeskView D) → HasSameJobs (record { store = store; jobs = two; machine_room = second }) new → HasSameJobs (record { store = store; jobs = one; machine_room = first }) new
     same-as-before new same = record { tables = same.tables ∙ desk; running = same.running ∙ running; failed = same.failed ∙ failed; points = same.points ∙ points }
 
-    same-store : (new : DeskView D) → IsSame (record { store = store; jobs = two; operator = second }) new → IsSame (record { store = store; jobs = one; operator = first }) new
+    same-store : (new : DeskView D) → IsSame (record { store = store; jobs = two; machine_room = second }) new → IsSame (record { store = store; jobs = one; machine_room = first }) new
     same-store new same = record { jobs = same-as-before new same.jobs; store = same.store }
 
-    pub prepared-cause : (faults : D → ℕ) (new : DeskView D) (error : DeskError) → NotEntered faults (record { store = store; jobs = two; operator = second }) new error
-        → NotKept faults event deck (record { store = store; jobs = one; operator = first }) new error
+    pub prepared-cause : (faults : D → ℕ) (new : DeskView D) (error : DeskError) → NotEntered faults (record { store = store; jobs = two; machine_room = second }) new error
+        → NotKept faults event deck (record { store = store; jobs = one; machine_room = first }) new error
     prepared-cause faults new NoMemory cause = absurd cause
     prepared-cause faults new DiskFault cause = (cause.0, same-as-before new cause.1)
     prepared-cause faults new (BookFull need room) cause = absurd cause

@@ -8,10 +8,8 @@ use Rattle.ckr_desk_memory.specs.View.{RunningStepView, jobs_of}
 use Rattle.ckr_desk_refines.proofs.Checkpoints.Turn.{taken-by}
 use Rattle.ckr_desk_turn.specs.Checkpoints.{checkpoint_fits, checkpoint_try}
 use Rattle.ckr_desk_turn.specs.declared.plan.Plan.TheVariants.{Take}
-use Rattle.ckr_desk_turn.specs.declared.reply.Turn.{Turn}
+use Rattle.ckr_desk_turn.specs.Turns.{IsMountedTurnOf, MountedTurn, plan_for}
 use Rattle.ckr_desk_turn.specs.Desk.{TurnDone}
-use Rattle.ckr_desk_turn.specs.Invariant.{IsTurnOf}
-use Rattle.ckr_desk_turn.specs.Plans.{plan_of}
 use Rattle.ckr_desk_turn.specs.Taken.{taken_of}
 use Rattle.ckr_desk.proofs.Checkpoints.Event.{event-turn}
 use Rattle.ckr_desk.proofs.Checkpoints.Steps.{its_pair, to-take, turned-take}
@@ -45,7 +43,7 @@ attempt-stays content may_leave faults run old new (BookFull need left) not = (s
 attempt-stays content may_leave faults run old new (Stopped fault) not = absurd not
 
 module _ {D : Type 0} (told : Type 0) (content : D → List ℕ) (may_leave : D → List ℕ → Type 0) (moment : D → ℕ) (left_since : D → ℕ → List ℕ → Type 0) (size : D → ℕ)
-    (old : DeskView D) (trusted : IsTrusted told content may_leave old) (turn : Turn) (its : IsTurnOf old.store.layout turn) (run : ℕ) (planned : plan_of old.store.layout (jobs_of old.jobs) turn ≡ Take run) (answer : Answer) where
+    (old : DeskView D) (trusted : IsTrusted told content may_leave old) (turn : MountedTurn) (its : IsMountedTurnOf old.store.layout turn) (run : ℕ) (planned : plan_for old.store.layout (jobs_of old.jobs) turn ≡ Take run) (answer : Answer) where
   abbrev state : RoomyDesk
   state = state_of content old
 

@@ -25,10 +25,8 @@ use Rattle.ckr_desk_refines.specs.Entries.{HasEntries}
 use Rattle.ckr_desk_store.specs.OpenImages.{event_records}
 use Rattle.ckr_desk_turn.specs.Checkpoints.{check_set, next_entry}
 use Rattle.ckr_desk_turn.specs.declared.plan.Plan.TheVariants.{Take}
-use Rattle.ckr_desk_turn.specs.declared.reply.Turn.{Turn}
+use Rattle.ckr_desk_turn.specs.Turns.{IsMountedTurnOf, MountedTurn, plan_for}
 use Rattle.ckr_desk_turn.specs.Desk.{DeskModel}
-use Rattle.ckr_desk_turn.specs.Invariant.{IsTurnOf}
-use Rattle.ckr_desk_turn.specs.Plans.{plan_of}
 use Rattle.ckr_desk_turn.specs.Taken.{taken_of}
 use Rattle.ckr_desk_turn.specs.Units.{StepProgress}
 use Rattle.ckr_desk.proofs.Checkpoints.EntryForm.{entry-spelled}
@@ -41,7 +39,7 @@ use Rattle.ckr_desk.specs.Soundness.{HasKept, IsTrusted, office_on, state_of}
 use Rattle.ckr_desk.specs.State.{DeskView}
 
 module _ {D : Type 0} (told : Type 0) (content : D → List ℕ) (may_leave : D → List ℕ → Type 0) (moment : D → ℕ) (left_since : D → ℕ → List ℕ → Type 0) (size : D → ℕ)
-    (old : DeskView D) (trusted : IsTrusted told content may_leave old) (turn : Turn) (its : IsTurnOf old.store.layout turn) (run : ℕ) (planned : plan_of old.store.layout (jobs_of old.jobs) turn ≡ Take run)
+    (old : DeskView D) (trusted : IsTrusted told content may_leave old) (turn : MountedTurn) (its : IsMountedTurnOf old.store.layout turn) (run : ℕ) (planned : plan_for old.store.layout (jobs_of old.jobs) turn ≡ Take run)
     (made : Checkpoint) (is : IsMade run old made) where
   abbrev layout : Layout
   layout = old.store.layout

@@ -26,7 +26,7 @@ use Rattle.ckr_desk_refines.specs.Checkpoints.{IsToTake}
 use Rattle.ckr_desk_turn.proofs.Checkpoints.Due.{checkpoint-only}
 use Rattle.ckr_desk_turn.proofs.Checkpoints.Ranges.{range-entry}
 use Rattle.ckr_desk_turn.specs.Checkpoints.{is_in_range, next_entry, step_entries}
-use Rattle.ckr_desk_turn.specs.declared.reply.Turn.{Turn}
+use Rattle.ckr_desk_turn.specs.Turns.{MountedTurn}
 use Rattle.ckr_desk_turn.specs.Desk.{DeskModel}
 use Rattle.ckr_desk_turn.specs.Due.{next_due}
 use Rattle.ckr_desk_turn.specs.EntryForms.{IsEntryForm, IsStateForm}
@@ -43,7 +43,7 @@ some-taken : (parm : Parm) (taken : ℕ) → is_checkpoint_count parm taken ≡ 
 some-taken parm zero due = absurd (none-due (not (parm.chk == 0)) _ due)
 some-taken parm (suc taken) due = omega arith
 
-module _ (layout : Layout) (old : JobsView) (image : List ℕ) (desk : DeskModel) (turn : Turn) (run : ℕ) (on : RunningStepView) (to : IsToTake layout old image desk turn run on) where
+module _ (layout : Layout) (old : JobsView) (image : List ℕ) (desk : DeskModel) (turn : MountedTurn) (run : ℕ) (on : RunningStepView) (to : IsToTake layout old image desk turn run on) where
   abbrev p : IsPair desk.layout desk.office image run on desk.running
   p = pair layout old image desk turn run on to
 

@@ -20,9 +20,7 @@ use Rattle.ckr_desk_turn.proofs.Checkpoints.Steps.{check-length as step-records,
 use Rattle.ckr_desk_turn.proofs.Runs.Lists.{events-checked}
 use Rattle.ckr_desk_turn.specs.Checkpoints.{check_set, checkpoint_fits, entry_end, fits_in, is_in_range, next_entry, next_id}
 use Rattle.ckr_desk_turn.specs.declared.plan.Plan.TheVariants.{Take}
-use Rattle.ckr_desk_turn.specs.declared.reply.Turn.{Turn}
-use Rattle.ckr_desk_turn.specs.Invariant.{IsTurnOf}
-use Rattle.ckr_desk_turn.specs.Plans.{plan_of}
+use Rattle.ckr_desk_turn.specs.Turns.{IsMountedTurnOf, MountedTurn, plan_for}
 use Rattle.ckr_desk_turn.specs.Units.{StepProgress}
 use Rattle.ckr_desk.proofs.Checkpoints.Steps.{its_pair}
 use Rattle.ckr_desk.proofs.Openings.DeckRecords.{deck-records}
@@ -45,7 +43,7 @@ fits-ranged sets row start step fits = by (check_set start) fits
     by (Some name) is = there name (entry_at sets name) is
 
 module _ {D : Type 0} (told : Type 0) (content : D → List ℕ) (may_leave : D → List ℕ → Type 0) (size : D → ℕ) (old : DeskView D) (trusted : IsTrusted told content may_leave old)
-    (turn : Turn) (its : IsTurnOf old.store.layout turn) (run : ℕ) (planned : plan_of old.store.layout (jobs_of old.jobs) turn ≡ Take run)
+    (turn : MountedTurn) (its : IsMountedTurnOf old.store.layout turn) (run : ℕ) (planned : plan_for old.store.layout (jobs_of old.jobs) turn ≡ Take run)
     (on : RunningStepView) (found : find (is_of_run run) old.jobs.running ≡ Some on) where
   abbrev sets : Named TableSet
   sets = (office_on old.store.layout (content old.store.disk)).tables.sets

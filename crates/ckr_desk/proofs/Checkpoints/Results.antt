@@ -10,9 +10,7 @@ use Rattle.ckr_desk_refines.specs.Moves.{HasSameRecords}
 use Rattle.ckr_desk_store.specs.OpenImages.{event_records}
 use Rattle.ckr_desk_turn.specs.declared.plan.Plan.TheVariants.{Take}
 use Rattle.ckr_desk_turn.specs.declared.reply.Reply.{Reply}
-use Rattle.ckr_desk_turn.specs.declared.reply.Turn.{Turn}
-use Rattle.ckr_desk_turn.specs.Invariant.{IsTurnOf}
-use Rattle.ckr_desk_turn.specs.Plans.{plan_of}
+use Rattle.ckr_desk_turn.specs.Turns.{IsMountedTurnOf, MountedTurn, plan_for}
 use Rattle.ckr_desk.proofs.Checkpoints.Entry.{entry-kept}
 use Rattle.ckr_desk.proofs.Checkpoints.Event.{taken-events, taken-fits, taken-kept-within, taken-state, taken-trusted}
 use Rattle.ckr_desk.specs.Calls.{HasGoneOn, IsLeftBy, NotEntered}
@@ -27,7 +25,7 @@ use Rattle.ckr_desk.specs.Turn.{event_of_turn, reply_of}
 use Rattle.ckr_desk.specs.Units.{HasTurned}
 
 module _ {D : Type 0} (told : Type 0) (content : D → List ℕ) (may_leave : D → List ℕ → Type 0) (moment : D → ℕ) (left_since : D → ℕ → List ℕ → Type 0) (size : D → ℕ)
-    (old : DeskView D) (trusted : IsTrusted told content may_leave old) (turn : Turn) (its : IsTurnOf old.store.layout turn) (run : ℕ) (planned : plan_of old.store.layout (jobs_of old.jobs) turn ≡ Take run)
+    (old : DeskView D) (trusted : IsTrusted told content may_leave old) (turn : MountedTurn) (its : IsMountedTurnOf old.store.layout turn) (run : ℕ) (planned : plan_for old.store.layout (jobs_of old.jobs) turn ≡ Take run)
     (made : Checkpoint) (is : IsMade run old made) (answer : Answer) where
   abbrev state : RoomyDesk
   state = state_of content old

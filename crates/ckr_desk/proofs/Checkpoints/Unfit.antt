@@ -3,7 +3,6 @@ use Rattle.std.proofs.Common.{◌≡◌, ◌&&◌, ℕ, Bool, true, false, List,
 use Rattle.std.specs.Prelude.{if◌then◌else◌}
 use Rattle.std.specs.Option.{is_some}
 use Rattle.std.proofs.lemmas.Bool.{true≢false}
-use Rattle.ckr_console.specs.Answering.{Answering}
 use Rattle.ckr_console.specs.declared.question.Answer.{Answer}
 use Rattle.ckr_entry.specs.Parts.{Entry}
 use Rattle.ckr_desk_memory.proofs.EntryModels.{next-same}
@@ -23,10 +22,8 @@ use Rattle.ckr_desk_turn.specs.Checkpoints as model
 use Rattle.ckr_desk_turn.specs.declared.plan.Plan.TheVariants.{Take}
 use Rattle.ckr_desk_turn.specs.declared.reply.Chkpt.TheVariants.{NotWritten}
 use Rattle.ckr_desk_turn.specs.declared.reply.Reply.{Reply}
-use Rattle.ckr_desk_turn.specs.declared.reply.Turn.{Turn}
+use Rattle.ckr_desk_turn.specs.Turns.{IsMountedTurnOf, MountedTurn, plan_for}
 use Rattle.ckr_desk_turn.specs.Desk.{DeskModel, TurnDone}
-use Rattle.ckr_desk_turn.specs.Invariant.{IsTurnOf}
-use Rattle.ckr_desk_turn.specs.Plans.{plan_of}
 use Rattle.ckr_desk_turn.specs.Taken.{served_by, taken_of}
 use Rattle.ckr_desk_turn.specs.Units.{StepProgress}
 use Rattle.ckr_desk.proofs.Checkpoints.Parts.{records-so, written-so}
@@ -35,7 +32,7 @@ use Rattle.ckr_desk.proofs.Turns.Resting.{turned-resting}
 use Rattle.ckr_desk.specs.Checkpoint.{IsUnfit}
 use Rattle.ckr_desk.specs.Rewrite.{OpensSame}
 use Rattle.ckr_desk.specs.Soundness.{IsTrusted, office_on, state_of}
-use Rattle.ckr_desk.specs.State.{DeskView}
+use Rattle.ckr_desk.specs.State.{DeskView, MachineRoomView}
 use Rattle.ckr_desk.specs.Units.{HasTurned}
 
 -- where nothing is made, and what fits could be written, it doesn't fit
@@ -44,7 +41,7 @@ unfit-by false entry writes none = refl
 unfit-by true entry writes none = absurd (true≢false (sym (ap (λ b. is_some (if b then Some entry else None)) (writes refl)) ∙ none))
 
 module _ {D : Type 0} (told : Type 0) (content : D → List ℕ) (may_leave : D → List ℕ → Type 0) (moment : D → ℕ) (left_since : D → ℕ → List ℕ → Type 0) (size : D → ℕ)
-    (old : DeskView D) (trusted : IsTrusted told content may_leave old) (turn : Turn) (its : IsTurnOf old.store.layout turn) (run : ℕ) (planned : plan_of old.store.layout (jobs_of old.jobs) turn ≡ Take run)
+    (old : DeskView D) (trusted : IsTrusted told content may_leave old) (turn : MountedTurn) (its : IsMountedTurnOf old.store.layout turn) (run : ℕ) (planned : plan_for old.store.layout (jobs_of old.jobs) turn ≡ Take run)
     (reply : Reply) (unfit : IsUnfit run old reply) where
   abbrev office : Office
   office = office_on old.store.layout (content old.store.disk)
@@ -89,11 +86,11 @@ module _ {D : Type 0} (told : Type 0) (content : D → List ℕ) (may_leave : D 
       reply-for told content may_leave size old trusted turn its run planned on unfit.reply_is.at.found NotWritten reply unfit.reply_is
       ∙ sym (ap (λ (done : TurnDone). done.reply) taken)
 
-  pub turned-unfit : (answer : Answer) (jobs : JobsView) (operator : Option Answering) → HasPassed run old.jobs jobs → (store : StoreView D) → store ≡ old.store
+  pub turned-unfit : (answer : Answer) (jobs : JobsView) (room : MachineRoomView) → HasPassed run old.jobs jobs → (store : StoreView D) → store ≡ old.store
       → EachSince moment left_since old.store.disk old.store.disk (λ image. OpensSame content size old image × may_leave old.store.disk image)
-      → HasTurned told content may_leave moment left_since size turn answer old (record { store = store; jobs = jobs; operator = operator }) (Ok reply)
-  turned-unfit answer jobs operator passed =
-      turned-resting told content may_leave moment left_since size old trusted turn answer jobs operator passed.tables (taken_of run desk)
+      → HasTurned told content may_leave moment left_since size turn answer old (record { store = store; jobs = jobs; machine_room = room }) (Ok reply)
+  turned-unfit answer jobs room passed =
+      turned-resting told content may_leave moment left_since size old trusted turn answer jobs room passed.tables (taken_of run desk)
       (turned-take told content may_leave size old trusted turn its run planned answer)
       (ap (λ (done : TurnDone). done.event) taken) (ap (λ (done : TurnDone). done.desk.office) taken)
       (unwritten-stands old.store.layout old.jobs jobs (content old.store.disk) desk turn run on (to-take told content may_leave size old trusted turn its run planned on unfit.reply_is.at.found) unfits passed) reply reply-so

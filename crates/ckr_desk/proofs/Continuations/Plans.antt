@@ -26,13 +26,12 @@ use Rattle.ckr_desk_memory.specs.Plans.{NeedsRoom}
 use Rattle.ckr_desk_memory.specs.View.{PointView, jobs_of}
 use Rattle.ckr_desk_turn.proofs.Turns.Initiator.{turn-keeps}
 use Rattle.ckr_desk_turn.specs.Desk.{DeskModel, TurnDone}
-use Rattle.ckr_desk_turn.specs.Invariant.{IsDesk, IsTurnOf}
+use Rattle.ckr_desk_turn.specs.Turns.{IsMountedTurnOf, MountedTurn, plan_for}
+use Rattle.ckr_desk_turn.specs.Invariant.{IsDesk}
 use Rattle.ckr_desk_turn.specs.NextEvents.{EventComes}
-use Rattle.ckr_desk_turn.specs.Plans.{plan_of}
 use Rattle.ckr_desk_turn.specs.declared.plan.Plan.{Plan}
 use Rattle.ckr_desk_turn.specs.declared.plan.Plan.TheVariants.{Tell}
 use Rattle.ckr_desk_turn.specs.declared.reply.Reply.{Reply}
-use Rattle.ckr_desk_turn.specs.declared.reply.Turn.{Turn}
 use Rattle.ckr_desk_refines.specs.Entries.{AreOwned, AreWithin}
 use Rattle.ckr_desk_refines.specs.EntryRefusal.{AreInEffect}
 use Rattle.ckr_desk_refines.specs.Moves.{KnowsItsEntry}
@@ -169,8 +168,8 @@ pub not-ok : (rule : Rule) (point : PointView) → ◌≡◌ {A = Result PointVi
 not-ok rule point same = cc
 
 module _ {D : Type 0} (told : Type 0) (content : D → List ℕ) (may_leave : D → List ℕ → Type 0) (size : D → ℕ) (old : DeskView D) (trusted : IsTrusted told content may_leave old)
-    (laid : AreLaidOut old.store.layout old.jobs.tables.desk.sets) (turn : Turn) (its_turn : IsTurnOf old.store.layout turn) (answer : Answer)
-    (plan : Plan) (planned : plan_of old.store.layout (jobs_of old.jobs) turn ≡ plan) (follow : PlanFollows old.store.layout old.jobs.tables.desk plan) (at : Continuation) (is : continuation_in plan ≡ Some at) where
+    (laid : AreLaidOut old.store.layout old.jobs.tables.desk.sets) (turn : MountedTurn) (its_turn : IsMountedTurnOf old.store.layout turn) (answer : Answer)
+    (plan : Plan) (planned : plan_for old.store.layout (jobs_of old.jobs) turn ≡ plan) (follow : PlanFollows old.store.layout old.jobs.tables.desk plan) (at : Continuation) (is : continuation_in plan ≡ Some at) where
   abbrev pub layout : Layout
   layout = old.store.layout
 

@@ -11,7 +11,8 @@ use Rattle.ckr_desk_memory.specs.Replay.{deck_of, goes_on, has_few_digits}
 use Rattle.ckr_desk_memory.specs.View.{jobs_of}
 use Rattle.ckr_desk_turn.proofs.Turns.Initiator.{turn-keeps}
 use Rattle.ckr_desk_turn.specs.NextEvents.{EventComes}
-use Rattle.ckr_desk_turn.specs.Invariant.{IsDesk, IsTurnOf}
+use Rattle.ckr_desk_turn.specs.Turns.{carried_out, IsMountedTurnOf, MountedTurn, plan_for, turn_of}
+use Rattle.ckr_desk_turn.specs.Invariant.{IsDesk}
 use Rattle.ckr_points.specs.Events.{IsNext}
 use Rattle.ckr_points.specs.Office.{Office, office_after}
 use Rattle.ckr_points.specs.Restart.{after_event}
@@ -25,11 +26,8 @@ use Rattle.ckr_desk_refines.proofs.Events.Turns.{told-committed, told-stands}
 use Rattle.ckr_desk_turn.specs.declared.plan.Plan.{Plan}
 use Rattle.ckr_desk_turn.specs.declared.plan.Plan.TheVariants.{Rest, Tell, Work, Pass, Take, Ask, Wait}
 use Rattle.ckr_desk_turn.specs.declared.reply.Reply.{Reply}
-use Rattle.ckr_desk_turn.specs.declared.reply.Turn.{Turn}
 use Rattle.ckr_desk_turn.specs.Desk.{DeskModel, TurnDone, behind, done_by, jobs_of as jobs_of_desk}
 use Rattle.ckr_desk_turn.specs.Inquiries.{decide, is_ask}
-use Rattle.ckr_desk_turn.specs.Turns.{carried_out, turn_of}
-use Rattle.ckr_desk_turn.specs.Plans.{plan_of}
 use Rattle.ckr_desk_turn.specs.Spelling.{IsSpelled}
 use Rattle.ckr_volumes.specs.declared.layout.Layout.{Layout}
 use Rattle.ckr_desk.proofs.Images.NextEvent.{deck-none}
@@ -86,7 +84,7 @@ small-digits (Submitted job cards) small = absurd small
 small-digits _ small = refl
 
 module _ {D : Type 0} (told : Type 0) (content : D → List ℕ) (may_leave : D → List ℕ → Type 0) (size : D → ℕ)
-    (old : DeskView D) (trusted : IsTrusted told content may_leave old) (turn : Turn) (its : IsTurnOf old.store.layout turn) where
+    (old : DeskView D) (trusted : IsTrusted told content may_leave old) (turn : MountedTurn) (its : IsMountedTurnOf old.store.layout turn) where
   abbrev layout : Layout
   layout = old.store.layout
 
@@ -94,26 +92,26 @@ module _ {D : Type 0} (told : Type 0) (content : D → List ℕ) (may_leave : D 
   desk = (state_of content old).desk
 
   -- the plan by the jobs in memory is that of the desk
-  pub plans-desk : plan_of layout (jobs_of old.jobs) turn ≡ plan_of desk.layout (jobs_of_desk desk) turn
+  pub plans-desk : plan_for layout (jobs_of old.jobs) turn ≡ plan_for desk.layout (jobs_of_desk desk) turn
   plans-desk = plans-so layout old.jobs (content old.store.disk) desk turn trusted.stands
 
-  pub turned : (answer : Answer) (plan : Plan) → plan_of layout (jobs_of old.jobs) turn ≡ plan → turn_of desk turn answer ≡ carried_out answer plan desk
+  pub turned : (answer : Answer) (plan : Plan) → plan_for layout (jobs_of old.jobs) turn ≡ plan → turn_of desk turn answer ≡ carried_out answer plan desk
   unfolding turn_of
   turned answer plan is = ap (λ p. carried_out answer p desk) (sym plans-desk ∙ is)
 
   -- a turn whose plan is settled by the answer comes to that
-  pub turned-settled : (answer : Answer) (plan : Plan) → decide answer (plan_of layout (jobs_of old.jobs) turn) ≡ plan → IsSettledPlan plan
-      → turn_of desk turn answer ≡ done_so plan (is_ask (plan_of layout (jobs_of old.jobs) turn)) desk
+  pub turned-settled : (answer : Answer) (plan : Plan) → decide answer (plan_for layout (jobs_of old.jobs) turn) ≡ plan → IsSettledPlan plan
+      → turn_of desk turn answer ≡ done_so plan (is_ask (plan_for layout (jobs_of old.jobs) turn)) desk
   turned-settled answer plan is settled =
-      turned answer (plan_of layout (jobs_of old.jobs) turn) refl
-      ∙ settled-done answer (plan_of layout (jobs_of old.jobs) turn) desk (subst IsSettledPlan (sym is) settled)
-      ∙ ap (λ p. done_so p (is_ask (plan_of layout (jobs_of old.jobs) turn)) desk) is
+      turned answer (plan_for layout (jobs_of old.jobs) turn) refl
+      ∙ settled-done answer (plan_for layout (jobs_of old.jobs) turn) desk (subst IsSettledPlan (sym is) settled)
+      ∙ ap (λ p. done_so p (is_ask (plan_for layout (jobs_of old.jobs) turn)) desk) is
 
-  module _ (answer : Answer) (reply : Reply) (event : Event) (planned : decide answer (plan_of layout (jobs_of old.jobs) turn) ≡ Tell reply event) (shape : IsSpelled event) where
+  module _ (answer : Answer) (reply : Reply) (event : Event) (planned : decide answer (plan_for layout (jobs_of old.jobs) turn) ≡ Tell reply event) (shape : IsSpelled event) where
     pub quiet-so : is_quiet event ≡ true
-    quiet-so = subst IsQuietPlan planned (decided-quiet answer (plan_of layout (jobs_of old.jobs) turn) (plan-quiet layout (jobs_of old.jobs) turn))
+    quiet-so = subst IsQuietPlan planned (decided-quiet answer (plan_for layout (jobs_of old.jobs) turn) (plan-quiet layout (jobs_of old.jobs) turn))
 
-    pub told-so : turn_of desk turn answer ≡ done_so (Tell reply event) (is_ask (plan_of layout (jobs_of old.jobs) turn)) desk
+    pub told-so : turn_of desk turn answer ≡ done_so (Tell reply event) (is_ask (plan_for layout (jobs_of old.jobs) turn)) desk
     told-so = turned-settled answer (Tell reply event) planned tt
 
     none : deck_of event ≡ None
@@ -122,7 +120,7 @@ module _ {D : Type 0} (told : Type 0) (content : D → List ℕ) (may_leave : D 
     rewrites-none : (tables : _) (rewrite : RewriteRecord) → rewrite_of tables event ≡ Some rewrite → ⊥
     rewrites-none tables rewrite is = some-not-none rewrite (sym is ∙ quiet-rewrites event quiet-so tables)
 
-    at-desk : decide answer (plan_of desk.layout (jobs_of_desk desk) turn) ≡ Tell reply event
+    at-desk : decide answer (plan_for desk.layout (jobs_of_desk desk) turn) ≡ Tell reply event
     at-desk = ap (decide answer) (sym plans-desk) ∙ planned
 
     kept-so : IsDesk (behind event None desk)

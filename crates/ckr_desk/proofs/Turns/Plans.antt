@@ -6,7 +6,7 @@ use Rattle.ckr_console.specs.declared.question.Answer.{Answer}
 use Rattle.ckr_events.specs.declared.event.Event.{Event}
 use Rattle.ckr_desk_memory.specs.Plans.{IsSpelledPlan, NeedsRoom}
 use Rattle.ckr_desk_memory.specs.View.{PointView, jobs_of}
-use Rattle.ckr_desk_turn.specs.Invariant.{IsTurnOf}
+use Rattle.ckr_desk_turn.specs.Turns.{IsMountedTurnOf, MountedTurn, plan_for, turn_of}
 use Rattle.ckr_outside.specs.Disk.{EachSince}
 use Rattle.ckr_outside.specs.Moments.{in_other_words}
 use Rattle.ckr_points.specs.Rows.{TablesModel}
@@ -16,11 +16,8 @@ use Rattle.ckr_desk_store.specs.State.{StoreView}
 use Rattle.ckr_desk_turn.specs.declared.plan.Plan.{Plan}
 use Rattle.ckr_desk_turn.specs.declared.plan.Plan.TheVariants.{Rest, Tell, Work, Pass, Take, Ask, Wait}
 use Rattle.ckr_desk_turn.specs.declared.reply.Reply.{Reply}
-use Rattle.ckr_desk_turn.specs.declared.reply.Turn.{Turn}
 use Rattle.ckr_desk_turn.specs.Desk.{DeskModel, TurnDone}
 use Rattle.ckr_desk_turn.specs.Inquiries.{decide, is_ask}
-use Rattle.ckr_desk_turn.specs.Plans.{plan_of}
-use Rattle.ckr_desk_turn.specs.Turns.{turn_of}
 use Rattle.ckr_desk.proofs.Turns.Preparation.{same-unchanged}
 use Rattle.ckr_desk.proofs.Images.Soundness.{kept-left}
 use Rattle.ckr_desk.proofs.Trust.Counts.{trusted-counted}
@@ -168,15 +165,15 @@ abbrev state_with : RoomyDesk → Option Event → Bool
 state_with state event = has_room state.room event
 
 module _ {D : Type 0} (told : Type 0) (content : D → List ℕ) (may_leave : D → List ℕ → Type 0) (moment : D → ℕ) (left_since : D → ℕ → List ℕ → Type 0) (size faults : D → ℕ)
-    (old : DeskView D) (trusted : IsTrusted told content may_leave old) (turn : Turn) (its : IsTurnOf old.store.layout turn) (answer : Answer) where
+    (old : DeskView D) (trusted : IsTrusted told content may_leave old) (turn : MountedTurn) (its : IsMountedTurnOf old.store.layout turn) (answer : Answer) where
   abbrev state : RoomyDesk
   state = state_of content old
 
   -- this is what the turn comes to, with the answer
   abbrev pub ComesTo : Plan → Type 0
-  ComesTo plan = (decide answer (plan_of old.store.layout (jobs_of old.jobs) turn) ≡ plan) × IsSettledPlan plan
+  ComesTo plan = (decide answer (plan_for old.store.layout (jobs_of old.jobs) turn) ≡ plan) × IsSettledPlan plan
 
-  comes-so : (plan : Plan) → ComesTo plan → turn_of state.desk turn answer ≡ done_so plan (is_ask (plan_of old.store.layout (jobs_of old.jobs) turn)) state.desk
+  comes-so : (plan : Plan) → ComesTo plan → turn_of state.desk turn answer ≡ done_so plan (is_ask (plan_for old.store.layout (jobs_of old.jobs) turn)) state.desk
   comes-so plan is = turned-settled told content may_leave size old trusted turn its answer plan is.0 is.1
 
   pub go-reply : (plan : Plan) → ComesTo plan → reply_in plan ≡ reply_of state turn answer
@@ -200,7 +197,7 @@ module _ {D : Type 0} (told : Type 0) (content : D → List ℕ) (may_leave : D 
   go-event (Ask inquiry) is = absurd is.1
 
   -- the operator is asked where the plan asks him
-  pub go-asks : (plan : Plan) → ComesTo plan → asks state turn answer ≡ is_ask (plan_of old.store.layout (jobs_of old.jobs) turn)
+  pub go-asks : (plan : Plan) → ComesTo plan → asks state turn answer ≡ is_ask (plan_for old.store.layout (jobs_of old.jobs) turn)
   unfolding asks
   go-asks plan is = ap (λ (done : TurnDone). done.asked) (comes-so plan is)
 
@@ -229,11 +226,11 @@ module _ {D : Type 0} (told : Type 0) (content : D → List ℕ) (may_leave : D 
 
     wait-state : state_of content new ≡ behind_turn state turn answer
     wait-state =
-        state-resting told content may_leave moment left_since size old trusted turn answer new.jobs new.operator gone.0.tables (turn_of state.desk turn answer) refl wait-none wait-office wait-stands new.store gone.1
+        state-resting told content may_leave moment left_since size old trusted turn answer new.jobs new.machine_room gone.0.tables (turn_of state.desk turn answer) refl wait-none wait-office wait-stands new.store gone.1
 
     wait-trusted : IsTrusted told content may_leave new
     wait-trusted =
-        trusted-resting told content may_leave moment left_since size old trusted turn answer new.jobs new.operator gone.0.tables (turn_of state.desk turn answer) refl wait-none wait-office wait-stands new.store gone.1
+        trusted-resting told content may_leave moment left_since size old trusted turn answer new.jobs new.machine_room gone.0.tables (turn_of state.desk turn answer) refl wait-none wait-office wait-stands new.store gone.1
 
   -- ---- what it comes to
 
@@ -314,13 +311,13 @@ module _ {D : Type 0} (told : Type 0) (content : D → List ℕ) (may_leave : D 
   lacking plan new (BookFull need room) not = absurd not
   lacking plan new (Stopped fault) not = absurd not
 
-  pub go-unsettled : (plan : Plan) (new : DeskView D) (error : DeskError) → plan_of old.store.layout (jobs_of old.jobs) turn ≡ plan → IsSettledPlan (decide answer plan)
+  pub go-unsettled : (plan : Plan) (new : DeskView D) (error : DeskError) → plan_for old.store.layout (jobs_of old.jobs) turn ≡ plan → IsSettledPlan (decide answer plan)
       → NotSettled answer plan old new error → FailsBy state.room (event_of_turn state turn answer) error
   go-unsettled plan new error is settled (inl lacks) = lacking plan new error lacks
   go-unsettled plan new error is settled (inr not) = unready (event_in (decide answer plan)) (go-event (decide answer plan) (ap (decide answer) is, settled)) new error not
 
   -- a plan that tells an event that needs memory, or asks the operator
-  needs-by : (plan : Plan) → plan_of old.store.layout (jobs_of old.jobs) turn ≡ plan → NeedsRoom plan → TakesBy (reply_of state turn answer) (event_of_turn state turn answer) (asks state turn answer) NoMemory
+  needs-by : (plan : Plan) → plan_for old.store.layout (jobs_of old.jobs) turn ≡ plan → NeedsRoom plan → TakesBy (reply_of state turn answer) (event_of_turn state turn answer) (asks state turn answer) NoMemory
   needs-by (Rest reply) is needs = absurd needs
   needs-by (Tell reply event) is needs = inl (ap needs_some (sym (go-event (Tell reply event) (ap (decide answer) is, tt))) ∙ needs)
   needs-by (Work job) is needs = absurd needs
@@ -329,8 +326,8 @@ module _ {D : Type 0} (told : Type 0) (content : D → List ℕ) (may_leave : D 
   needs-by (Ask inquiry) is needs = inr (inl (go-asks (decide answer (Ask inquiry)) (ap (decide answer) is, settled-so answer (Ask inquiry) refl) ∙ ap is_ask is))
   needs-by (Wait job code) is needs = absurd needs
 
-  pub go-needs : NeedsRoom (plan_of old.store.layout (jobs_of old.jobs) turn) → TakesBy (reply_of state turn answer) (event_of_turn state turn answer) (asks state turn answer) NoMemory
-  go-needs needs = needs-by (plan_of old.store.layout (jobs_of old.jobs) turn) refl needs
+  pub go-needs : NeedsRoom (plan_for old.store.layout (jobs_of old.jobs) turn) → TakesBy (reply_of state turn answer) (event_of_turn state turn answer) (asks state turn answer) NoMemory
+  go-needs needs = needs-by (plan_for old.store.layout (jobs_of old.jobs) turn) refl needs
 
   unready-takes : (event : Option Event) → event ≡ event_of_turn state turn answer → (new : DeskView D) (error : DeskError) → old.store.layout.book ≤ 4294967295 → NotReadyFor event old new error
       → TakesBy (reply_of state turn answer) (event_of_turn state turn answer) (asks state turn answer) error
@@ -351,7 +348,7 @@ module _ {D : Type 0} (told : Type 0) (content : D → List ℕ) (may_leave : D 
   lacking-takes plan new (BookFull need room) is not = absurd not
   lacking-takes plan new (Stopped fault) is not = absurd not
 
-  pub unsettled-takes : (plan : Plan) (new : DeskView D) (error : DeskError) → old.store.layout.book ≤ 4294967295 → plan_of old.store.layout (jobs_of old.jobs) turn ≡ plan → IsSettledPlan (decide answer plan)
+  pub unsettled-takes : (plan : Plan) (new : DeskView D) (error : DeskError) → old.store.layout.book ≤ 4294967295 → plan_for old.store.layout (jobs_of old.jobs) turn ≡ plan → IsSettledPlan (decide answer plan)
       → NotSettled answer plan old new error → TakesBy (reply_of state turn answer) (event_of_turn state turn answer) (asks state turn answer) error
   unsettled-takes plan new error small is settled (inl lacks) = lacking-takes plan new error (go-asks (decide answer plan) (ap (decide answer) is, settled) ∙ ap is_ask is) lacks
   unsettled-takes plan new error small is settled (inr not) = unready-takes (event_in (decide answer plan)) (go-event (decide answer plan) (ap (decide answer) is, settled)) new error small not

@@ -14,11 +14,9 @@ use Rattle.ckr_desk_store.specs.OpenImages.{event_records}
 use Rattle.ckr_desk_store.specs.State.{StoreView}
 use Rattle.ckr_desk_turn.specs.declared.plan.Plan.{Plan}
 use Rattle.ckr_desk_turn.specs.declared.reply.Reply.{Reply}
-use Rattle.ckr_desk_turn.specs.declared.reply.Turn.{Turn}
+use Rattle.ckr_desk_turn.specs.Turns.{IsMountedTurnOf, MountedTurn, plan_for}
 use Rattle.ckr_desk_turn.specs.Jobs.{TurnJobs}
-use Rattle.ckr_desk_turn.specs.Plans.{plan_of}
 use Rattle.ckr_volumes.specs.declared.layout.Layout.{Layout}
-use Rattle.ckr_desk_turn.specs.Invariant.{IsTurnOf}
 use Rattle.ckr_desk.proofs.Images.Soundness.{kept-left}
 use Rattle.ckr_desk.proofs.Trust.Sameness.{IsAsBefore, state-same, trusted-same}
 use Rattle.ckr_desk.specs.Requests.{FailsBy, came_by, spelled}
@@ -100,14 +98,14 @@ module _ {D : Type 0} (told : Type 0) (content : D → List ℕ) (may_leave : D 
     (old mid : DeskView D) (is : IsAsBefore told content may_leave old mid) (sized : size mid.store.disk ≡ size old.store.disk)
     (since : EachSince moment left_since old.store.disk mid.store.disk (λ image. OpensSame content size old image × may_leave old.store.disk image)) where
   -- a turn comes to the same
-  pub planned-before : (turn : Turn) (plan : Plan) → IsPlanned told content may_leave old turn plan → IsPlanned told content may_leave mid turn plan
+  pub planned-before : (turn : MountedTurn) (plan : Plan) → IsPlanned told content may_leave old turn plan → IsPlanned told content may_leave mid turn plan
   planned-before turn plan p = record {
     trusted = trusted-same told content may_leave old mid is p.trusted;
-    its = subst (λ (l : Layout). IsTurnOf l turn) (sym is.layout) p.its;
-    planned = ap (λ (l : Layout). plan_of l (jobs_of mid.jobs) turn) is.layout ∙ ap (λ jobs. plan_of old.store.layout jobs turn) (jobs-same old.jobs mid.jobs is.jobs) ∙ p.planned;
+    its = subst (λ (l : Layout). IsMountedTurnOf l turn) (sym is.layout) p.its;
+    planned = ap (λ (l : Layout). plan_for l (jobs_of mid.jobs) turn) is.layout ∙ ap (λ jobs. plan_for old.store.layout jobs turn) (jobs-same old.jobs mid.jobs is.jobs) ∙ p.planned;
   }
 
-  module _ (turn : Turn) (answer : Answer) (trusted : IsTrusted told content may_leave old) where
+  module _ (turn : MountedTurn) (answer : Answer) (trusted : IsTrusted told content may_leave old) where
     abbrev before : List (List ℕ)
     before = event_records old.store.layout (content old.store.disk)
 

@@ -1,7 +1,6 @@
 -- A turn that tells no event and doesn't call the disk, from the desk as it stood.
 use Rattle.std.proofs.Common.{◌≡◌, ◌++◌, ℕ, List, true, ap, sym, ◌∙◌, subst, append-nil, Option, None, Ok}
 use Rattle.ckr_book.specs.Book.{room_of}
-use Rattle.ckr_console.specs.Answering.{Answering}
 use Rattle.ckr_console.specs.declared.question.Answer.{Answer}
 use Rattle.ckr_desk_memory.specs.View.{JobsView}
 use Rattle.ckr_outside.specs.Disk.{EachSince}
@@ -12,15 +11,14 @@ use Rattle.ckr_desk_refines.specs.Standing.{StandsForDesk, desk_seen}
 use Rattle.ckr_desk_store.specs.OpenImages.{event_records}
 use Rattle.ckr_desk_store.specs.State.{StoreView}
 use Rattle.ckr_desk_turn.specs.declared.reply.Reply.{Reply}
-use Rattle.ckr_desk_turn.specs.declared.reply.Turn.{Turn}
+use Rattle.ckr_desk_turn.specs.Turns.{MountedTurn, turn_of}
 use Rattle.ckr_desk_turn.specs.Desk.{DeskModel, TurnDone}
-use Rattle.ckr_desk_turn.specs.Turns.{turn_of}
 use Rattle.ckr_volumes.specs.declared.layout.Layout.{Layout}
 use Rattle.ckr_desk.proofs.Images.Soundness.{kept-left}
 use Rattle.ckr_desk.specs.Requests.{has_room, room_behind, spelled}
 use Rattle.ckr_desk.specs.Rewrite.{OpensSame}
 use Rattle.ckr_desk.specs.Soundness.{HasKept, IsTrusted, state_of}
-use Rattle.ckr_desk.specs.State.{DeskView, RoomyDesk}
+use Rattle.ckr_desk.specs.State.{DeskView, MachineRoomView, RoomyDesk}
 use Rattle.ckr_desk.specs.Turn.{behind_turn, event_of_turn, reply_of, turn_fits}
 use Rattle.ckr_desk.specs.Units.{HasTurned}
 
@@ -28,7 +26,7 @@ abbrev with_room : DeskModel → ℕ → RoomyDesk
 with_room desk room = record { desk = desk; room = room }
 
 module _ {D : Type 0} (told : Type 0) (content : D → List ℕ) (may_leave : D → List ℕ → Type 0) (moment : D → ℕ) (left_since : D → ℕ → List ℕ → Type 0) (size : D → ℕ)
-    (old : DeskView D) (trusted : IsTrusted told content may_leave old) (turn : Turn) (answer : Answer) (jobs : JobsView) (operator : Option Answering) (tables : jobs.tables.desk ≡ old.jobs.tables.desk) where
+    (old : DeskView D) (trusted : IsTrusted told content may_leave old) (turn : MountedTurn) (answer : Answer) (jobs : JobsView) (room : MachineRoomView) (tables : jobs.tables.desk ≡ old.jobs.tables.desk) where
   abbrev layout : Layout
   layout = old.store.layout
 
@@ -36,7 +34,7 @@ module _ {D : Type 0} (told : Type 0) (content : D → List ℕ) (may_leave : D 
   state = state_of content old
 
   abbrev new : DeskView D
-  new = record { store = old.store; jobs = jobs; operator = operator }
+  new = record { store = old.store; jobs = jobs; machine_room = room }
 
   abbrev before : List (List ℕ)
   before = event_records old.store.layout (content old.store.disk)
@@ -79,11 +77,11 @@ module _ {D : Type 0} (told : Type 0) (content : D → List ℕ) (may_leave : D 
 
     -- the store is the same
     module _ (store : StoreView D) (same : store ≡ old.store) where
-      pub state-resting : state_of content (record { store = store; jobs = jobs; operator = operator }) ≡ behind_turn state turn answer
-      state-resting = subst (λ (s : StoreView D). state_of content (record { store = s; jobs = jobs; operator = operator }) ≡ behind_turn state turn answer) (sym same) state-so
+      pub state-resting : state_of content (record { store = store; jobs = jobs; machine_room = room }) ≡ behind_turn state turn answer
+      state-resting = subst (λ (s : StoreView D). state_of content (record { store = s; jobs = jobs; machine_room = room }) ≡ behind_turn state turn answer) (sym same) state-so
 
-      pub trusted-resting : IsTrusted told content may_leave (record { store = store; jobs = jobs; operator = operator })
-      trusted-resting = subst (λ (s : StoreView D). IsTrusted told content may_leave (record { store = s; jobs = jobs; operator = operator })) (sym same) trusted-so
+      pub trusted-resting : IsTrusted told content may_leave (record { store = store; jobs = jobs; machine_room = room })
+      trusted-resting = subst (λ (s : StoreView D). IsTrusted told content may_leave (record { store = s; jobs = jobs; machine_room = room })) (sym same) trusted-so
 
     module _ (reply : Reply) (its : reply ≡ done.reply) where
       reply-so : reply ≡ reply_of state turn answer
@@ -106,6 +104,6 @@ module _ {D : Type 0} (told : Type 0) (content : D → List ℕ) (may_leave : D 
       }
 
       pub turned-resting : (store : StoreView D) → store ≡ old.store → EachSince moment left_since old.store.disk old.store.disk (λ image. OpensSame content size old image × may_leave old.store.disk image)
-          → HasTurned told content may_leave moment left_since size turn answer old (record { store = store; jobs = jobs; operator = operator }) (Ok reply)
+          → HasTurned told content may_leave moment left_since size turn answer old (record { store = store; jobs = jobs; machine_room = room }) (Ok reply)
       turned-resting store same since =
-          subst (λ (s : StoreView D). HasTurned told content may_leave moment left_since size turn answer old (record { store = s; jobs = jobs; operator = operator }) (Ok reply)) (sym same) (turned-so since)
+          subst (λ (s : StoreView D). HasTurned told content may_leave moment left_since size turn answer old (record { store = s; jobs = jobs; machine_room = room }) (Ok reply)) (sym same) (turned-so since)

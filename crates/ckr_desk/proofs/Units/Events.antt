@@ -48,7 +48,7 @@ use Rattle.ckr_steps.specs.declared.step_run.Worked.{Worked}
 use Rattle.ckr_steps.specs.declared.step_run.Worked.TheVariants.{Abend, Rewrite}
 use Rattle.ckr_steps.specs.Writes.{IsShown}
 use Rattle.ckr_desk_refines.proofs.Events.Turns.{code-committed, code-stands, held-stands, hold-committed, restart-committed, restarted-stands}
-use Rattle.ckr_desk_turn.specs.declared.reply.Turn.{Turn}
+use Rattle.ckr_desk_turn.specs.Turns.{MountedTurn}
 use Rattle.ckr_desk_turn.specs.Desk.{DeskModel, TurnDone, behind, work_of}
 use Rattle.ckr_volumes.specs.declared.layout.Layout.{Layout}
 use Rattle.ckr_volumes.specs.Places.{StretchModel, address_of, stretches_of, stretches_of_parts}
@@ -121,7 +121,7 @@ differs-nowhere layout set place image = record { records = λ at less apart. re
 
 -- ---- the unit's event comes
 
-module _ (old : JobsView) (before after : List ℕ) (desk : DeskModel) (turn : Turn) (run : ℕ) (on moved : RunningStepView) (worked : Worked) (unit : StandsBehindUnit desk.layout old before after desk turn run on moved worked) (answer : Answer) where
+module _ (old : JobsView) (before after : List ℕ) (desk : DeskModel) (turn : MountedTurn) (run : ℕ) (on moved : RunningStepView) (worked : Worked) (unit : StandsBehindUnit desk.layout old before after desk turn run on moved worked) (answer : Answer) where
   comes-so : (event : Event) → (work_of answer run desk).event ≡ Some event → Comes desk event
   comes-so event is =
       subst (EventComes desk) is
@@ -130,7 +130,7 @@ module _ (old : JobsView) (before after : List ℕ) (desk : DeskModel) (turn : T
 
 -- ---- the step ends with a code
 
-module _ (old : JobsView) (before after : List ℕ) (desk : DeskModel) (turn : Turn) (run : ℕ) (on moved : RunningStepView) (code : Code) (unit : StandsBehindUnit desk.layout old before after desk turn run on moved (Abend code))
+module _ (old : JobsView) (before after : List ℕ) (desk : DeskModel) (turn : MountedTurn) (run : ℕ) (on moved : RunningStepView) (code : Code) (unit : StandsBehindUnit desk.layout old before after desk turn run on moved (Abend code))
     (put : JobsView) (back : IsPutBack run moved old put) (answer : Answer) where
   but : StandsBut run desk.layout put after desk
   but = coded-but desk.layout old before after desk turn run on moved code unit put back
@@ -206,7 +206,7 @@ module _ (old : JobsView) (before after : List ℕ) (desk : DeskModel) (turn : T
 
 -- ---- the step rewrites a record
 
-module _ (old : JobsView) (before after : List ℕ) (desk : DeskModel) (turn : Turn) (run : ℕ) (on moved : RunningStepView) (place : ℕ) (image : List ℕ) (taken : ℕ) (unit : StandsBehindUnit desk.layout old before after desk turn run on moved (Rewrite place image taken)) where
+module _ (old : JobsView) (before after : List ℕ) (desk : DeskModel) (turn : MountedTurn) (run : ℕ) (on moved : RunningStepView) (place : ℕ) (image : List ℕ) (taken : ℕ) (unit : StandsBehindUnit desk.layout old before after desk turn run on moved (Rewrite place image taken)) where
   asks : AsksToRewrite desk.layout old before after desk turn run on moved place image taken
   asks = record { stands = unit.stands; planned = unit.planned; found = unit.found; run = unit.same_run; code = unit.same_code; did = unit.did; goes = unit.goes; keeps = unit.keeps }
 

@@ -32,7 +32,7 @@ module _ {D : Type 0} (faults : D → ℕ) (old new : DeskView D) where
   unworked-numbers room (BookFull need left) not = absurd not
   unworked-numbers room (Stopped fault) not = absurd not
 
-  pub unworked-stands : (asks : Bool) (error : DeskError) → NotWorkedOut faults old new error → AnswerStands asks old.operator new.operator (failed error)
+  pub unworked-stands : (asks : Bool) (error : DeskError) → NotWorkedOut faults old new error → AnswerStands asks old.machine_room new.machine_room (failed error)
   unworked-stands asks NoMemory not = absurd not
   unworked-stands asks DiskFault not = tt
   unworked-stands asks (BookFull need left) not = absurd not

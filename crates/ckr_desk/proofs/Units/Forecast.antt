@@ -18,10 +18,9 @@ use Rattle.ckr_steps.specs.declared.unit_ahead.UnitAhead.{UnitAhead}
 use Rattle.ckr_steps.specs.StepUnit.{HasLooked}
 use Rattle.ckr_desk_turn.specs.declared.plan.Plan.{Plan}
 use Rattle.ckr_desk_turn.specs.declared.plan.Plan.TheVariants.{Work}
-use Rattle.ckr_desk_turn.specs.declared.reply.Turn.{Turn}
+use Rattle.ckr_desk_turn.specs.Turns.{MountedTurn, plan_for}
 use Rattle.ckr_desk_turn.specs.Desk.{DeskModel, TurnDone, jobs_of as jobs_of_desk}
 use Rattle.ckr_desk_turn.specs.Inquiries.{decide}
-use Rattle.ckr_desk_turn.specs.Plans.{plan_of}
 use Rattle.ckr_volumes.specs.declared.layout.Layout.{Layout}
 use Rattle.ckr_desk_refines.proofs.Units.Forecasts.{BothTell, as-many, both-tell, foretold-so}
 use Rattle.ckr_desk_refines.proofs.Units.RunningStep.{pair-found}
@@ -60,8 +59,8 @@ like-needs (Ended job ending) event is = end-needs job event is
 like-needs _ event is = absurd (false≢true is)
 
 module _ {D : Type 0} (told : Type 0) (content : D → List ℕ) (may_leave : D → List ℕ → Type 0) (moment : D → ℕ) (left_since : D → ℕ → List ℕ → Type 0) (size : D → ℕ)
-    (old : DeskView D) (trusted : IsTrusted told content may_leave old) (turn : Turn) (run : ℕ)
-    (planned : plan_of old.store.layout (jobs_of old.jobs) turn ≡ Work run) (unit : UnitAhead) (of : IsWorkedOut told content run old unit) (answer : Answer) (plan : Plan)
+    (old : DeskView D) (trusted : IsTrusted told content may_leave old) (turn : MountedTurn) (run : ℕ)
+    (planned : plan_for old.store.layout (jobs_of old.jobs) turn ≡ Work run) (unit : UnitAhead) (of : IsWorkedOut told content run old unit) (answer : Answer) (plan : Plan)
     (told_so : IsToldOf old.store.layout old.jobs.tables.desk (behind_unit of.on unit) unit.worked answer plan) where
   abbrev layout : Layout
   layout = old.store.layout
@@ -75,7 +74,7 @@ module _ {D : Type 0} (told : Type 0) (content : D → List ℕ) (may_leave : D 
   abbrev desk : DeskModel
   desk = (state_of content old).desk
 
-  worked-at : plan_of desk.layout (jobs_of_desk desk) turn ≡ Work run
+  worked-at : plan_for desk.layout (jobs_of_desk desk) turn ≡ Work run
   worked-at = at-desk told content may_leave moment left_since size old trusted turn run planned answer
 
   abbrev on : RunningStepView

@@ -32,7 +32,7 @@ use Rattle.ckr_desk_store.specs.State.{StoreView}
 use Rattle.ckr_desk_turn.specs.declared.plan.Plan.{Plan}
 use Rattle.ckr_desk_turn.specs.declared.plan.Plan.TheVariants.{Rest, Work}
 use Rattle.ckr_desk_turn.specs.declared.reply.Reply.{Reply}
-use Rattle.ckr_desk_turn.specs.declared.reply.Turn.{Turn}
+use Rattle.ckr_desk_turn.specs.Turns.{MountedTurn}
 use Rattle.ckr_desk_turn.specs.Inquiries.{decide, is_ask}
 use Rattle.ckr_volumes.specs.declared.layout.Layout.{Layout}
 use Rattle.ckr_desk.proofs.Units.Forecast.{full-ahead, needs-ahead}
@@ -171,7 +171,7 @@ module _ {D : Type 0} (told : Type 0) (content : D → List ℕ) (run : ℕ) (ol
 -- ---- why it wasn't looked at
 
 module _ {D : Type 0} (told : Type 0) (content : D → List ℕ) (may_leave : D → List ℕ → Type 0) (moment : D → ℕ) (left_since : D → ℕ → List ℕ → Type 0) (size : D → ℕ) (run : ℕ) (answer : Answer) (old new : DeskView D) where
-  pub look-cause : (turn : Turn) → IsPlanned told content may_leave old turn (Work run) → IsPlanned told content may_leave new turn (Work run) → IsAsBefore told content may_leave old new
+  pub look-cause : (turn : MountedTurn) → IsPlanned told content may_leave old turn (Work run) → IsPlanned told content may_leave new turn (Work run) → IsAsBefore told content may_leave old new
       → (error : DeskError) → NotLooked told content run answer old new error → FailsBy (state_of content old).room (event_of_turn (state_of content old) turn answer) error
   look-cause turn p later is NoMemory not = tt
   look-cause turn p later is DiskFault not = absurd not
@@ -181,21 +181,21 @@ module _ {D : Type 0} (told : Type 0) (content : D → List ℕ) (may_leave : D 
   look-cause turn p later is (Stopped fault) not = absurd not
 
   -- there is no memory only for what the turn tells, where that needs some
-  lacks-ahead : (turn : Turn) → IsPlanned told content may_leave new turn (Work run) → new.store.layout.book ≤ 4294967295 → (ahead : HasEventAhead told content run answer new) → MayLack ahead.event new
+  lacks-ahead : (turn : MountedTurn) → IsPlanned told content may_leave new turn (Work run) → new.store.layout.book ≤ 4294967295 → (ahead : HasEventAhead told content run answer new) → MayLack ahead.event new
       → needs_some (event_of_turn (state_of content new) turn answer) ≡ true
   lacks-ahead turn later small ahead (inl needs) =
       needs-ahead told content may_leave moment left_since size new later.trusted turn run later.planned ahead.unit ahead.of answer ahead.plan ahead.planned ahead.event ahead.is needs
   lacks-ahead turn later small ahead (inr off) = absurd (true≢false (sym (trusted-counted told content may_leave new later.trusted small ahead.event) ∙ off))
 
   -- or where it asks the operator
-  asks-some : (turn : Turn) → IsPlanned told content may_leave new turn (Work run) → (ahead : AsksAhead told content run new) → asks (state_of content new) turn answer ≡ true
+  asks-some : (turn : MountedTurn) → IsPlanned told content may_leave new turn (Work run) → (ahead : AsksAhead told content run new) → asks (state_of content new) turn answer ≡ true
   asks-some turn later ahead =
       let at = at-step told content may_leave moment left_since size new later.trusted turn run later.planned ahead.unit ahead.of answer in
       asks-ahead told content may_leave moment left_since size new later.trusted turn run later.planned ahead.unit ahead.of
       answer (λ went. false≢true (sym (went-quiet new at.0 ahead.of.on ahead.unit went) ∙ ahead.asks at.0 at.1 at.2)) ahead.of.on at.0 at.1 at.2
       ∙ ahead.asks at.0 at.1 at.2
 
-  pub look-takes : (turn : Turn) → IsPlanned told content may_leave new turn (Work run) → IsAsBefore told content may_leave old new → new.store.layout.book ≤ 4294967295
+  pub look-takes : (turn : MountedTurn) → IsPlanned told content may_leave new turn (Work run) → IsAsBefore told content may_leave old new → new.store.layout.book ≤ 4294967295
       → (error : DeskError) → NotLooked told content run answer old new error
       → TakesBy (reply_of (state_of content old) turn answer) (event_of_turn (state_of content old) turn answer) (asks (state_of content old) turn answer) error
   look-takes turn later is small NoMemory not = by not.1

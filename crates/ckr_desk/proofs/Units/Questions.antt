@@ -3,11 +3,14 @@ use Rattle.std.proofs.Common.{◌≡◌, ℕ, Bool, true, false, List, refl, ap,
 use Rattle.std.specs.Option.{option_map_or}
 use Rattle.std.proofs.lemmas.Bool.{false≢true}
 use Rattle.std.proofs.lemmas.Option.{same_Some}
+use Rattle.ckr_base.proofs.Numbers.{equal-true}
 use Rattle.ckr_base.proofs.Options.{some-not-none}
+use Rattle.ckr_base.proofs.Sequences.{find-passes}
 use Rattle.ckr_console.specs.declared.question.Answer.{Answer}
 use Rattle.ckr_console.specs.declared.question.Answer.TheVariants.{Yes}
 use Rattle.ckr_events.specs.declared.event.Event.{Event}
 use Rattle.ckr_events.specs.declared.event.Event.TheVariants.{Ended, Held, Restarted, Rewritten}
+use Rattle.ckr_desk_memory.specs.EventChanges.{is_of_run}
 use Rattle.ckr_desk_memory.specs.Plans.{IsWent, behind_unit, told_by}
 use Rattle.ckr_desk_memory.specs.View.{RunningStepView, jobs_of, running_of}
 use Rattle.ckr_meaning.specs.EffectiveJob.{OwnedStep}
@@ -27,12 +30,12 @@ use Rattle.ckr_steps.specs.StepUnit.{HasLooked}
 use Rattle.ckr_desk_turn.proofs.Codes.{by-verdict}
 use Rattle.ckr_desk_turn.specs.Codes.{asked_at_entry, ended_by, initiator_of, judged_plan, running_reached, verdict_for}
 use Rattle.ckr_desk_turn.specs.declared.plan.Plan.{Plan}
-use Rattle.ckr_desk_turn.specs.declared.plan.Plan.TheVariants.{Work}
-use Rattle.ckr_desk_turn.specs.declared.reply.Turn.{Turn}
+use Rattle.ckr_desk_turn.specs.declared.plan.Plan.TheVariants.{Rest, Work}
+use Rattle.ckr_desk_turn.specs.declared.reply.Reply.{Reply}
+use Rattle.ckr_desk_turn.specs.Turns.{MountedTurn, plan_for}
 use Rattle.ckr_desk_turn.specs.Desk.{DeskModel, TurnDone, progress_of, start_of, unit_done, with_progress, work_of, seen, jobs_of as jobs_of_desk}
 use Rattle.ckr_desk_turn.specs.Inquiries.{decide, is_ask}
 use Rattle.ckr_desk_turn.specs.Jobs.{TurnStep, effect_entry}
-use Rattle.ckr_desk_turn.specs.Plans.{plan_of}
 use Rattle.ckr_desk_turn.specs.Units.{UnitEnd, UnitOutcome, abended, unit_end, unit_plan, went}
 use Rattle.ckr_volumes.specs.declared.layout.Layout.{Layout}
 use Rattle.ckr_desk.proofs.Units.Turn.{at-desk, row-within, turned}
@@ -40,7 +43,7 @@ use Rattle.ckr_desk.specs.Preparation.{IsWorkedOut, asks_behind}
 use Rattle.ckr_desk.specs.Soundness.{IsTrusted, office_on, state_of}
 use Rattle.ckr_desk.specs.State.{DeskView}
 use Rattle.ckr_desk.specs.Turn.{asks}
-use Rattle.ckr_desk.specs.Units.{IsAt}
+use Rattle.ckr_desk.specs.Units.{IsAt, IsToldOf}
 
 abbrev is_restarted : Event → Bool
 is_restarted (Restarted job initiator code checkpoint) = true
@@ -139,8 +142,8 @@ like-goes _ event is = absurd (false≢true is)
 -- ---- on a trusted disk
 
 module _ {D : Type 0} (told : Type 0) (content : D → List ℕ) (may_leave : D → List ℕ → Type 0) (moment : D → ℕ) (left_since : D → ℕ → List ℕ → Type 0) (size : D → ℕ)
-    (old : DeskView D) (trusted : IsTrusted told content may_leave old) (turn : Turn) (run : ℕ)
-    (planned : plan_of old.store.layout (jobs_of old.jobs) turn ≡ Work run) (unit : UnitAhead) (of : IsWorkedOut told content run old unit) (answer : Answer) where
+    (old : DeskView D) (trusted : IsTrusted told content may_leave old) (turn : MountedTurn) (run : ℕ)
+    (planned : plan_for old.store.layout (jobs_of old.jobs) turn ≡ Work run) (unit : UnitAhead) (of : IsWorkedOut told content run old unit) (answer : Answer) where
   abbrev layout : Layout
   layout = old.store.layout
 
@@ -184,3 +187,16 @@ module _ {D : Type 0} (told : Type 0) (content : D → List ℕ) (may_leave : D 
         asks-there row (ap (λ (tables : TablesModel). run_of tables run) (sym trusted.stands.tables) ∙ at.row_at)
         ∙ ap (λ (step : RunningStepView). asks_by office.tables row (behind_unit step unit)) (same_Some of.on on (sym of.found ∙ at.found))
         ∙ ap (λ (tables : TablesModel). asks_by tables row (behind_unit on unit)) (sym trusted.stands.tables)
+
+  -- what is told of a unit behind which the step goes on is a reply
+  pub went-rests : IsWent unit.worked → (plan : Plan) → IsToldOf layout old.jobs.tables.desk (behind_unit of.on unit) unit.worked answer plan → (reply : Reply) × (plan ≡ Rest reply)
+  went-rests on_it plan planned =
+      let at = at-step in
+      let found : of.on.run ≡ run = equal-true of.on.run run (find-passes (is_of_run run) old.jobs.running of.on of.found) in
+      by at.0 unit.worked on_it (planned at.0 at.1 (ap (run_of old.jobs.tables.desk) found ∙ at.2.row_at) at.2.step_at)
+    where
+      by : (row : RunRow) (worked : Worked) → IsWent worked → plan ≡ decide answer (told_by layout old.jobs.tables.desk row (running_of old.jobs.tables.desk (behind_unit of.on unit)) worked)
+          → (reply : Reply) × (plan ≡ Rest reply)
+      by row (Went taken) on_it is = (_, is)
+      by row (Rewrite place image taken) on_it is = absurd on_it
+      by row (Abend code) on_it is = absurd on_it

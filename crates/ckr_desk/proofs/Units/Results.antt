@@ -12,8 +12,7 @@ use Rattle.ckr_desk_store.specs.State.{StoreView}
 use Rattle.ckr_desk_turn.specs.declared.plan.Plan.{Plan}
 use Rattle.ckr_desk_turn.specs.declared.plan.Plan.TheVariants.{Rest, Tell, Work, Pass, Take, Ask, Wait}
 use Rattle.ckr_desk_turn.specs.declared.reply.Reply.{Reply}
-use Rattle.ckr_desk_turn.specs.declared.reply.Turn.{Turn}
-use Rattle.ckr_desk_turn.specs.Plans.{plan_of}
+use Rattle.ckr_desk_turn.specs.Turns.{MountedTurn, plan_for}
 use Rattle.ckr_volumes.specs.declared.layout.Layout.{Layout}
 use Rattle.ckr_desk.proofs.Turns.Plans.{gone-told}
 use Rattle.ckr_desk.proofs.Units.Turn.{behind-kept, event-so, reply-so, rest-state, rest-trusted, unit-has_room, unit-kept, unit-state, unit-trusted}
@@ -28,8 +27,8 @@ use Rattle.ckr_desk.specs.Turn.{behind_turn, event_of_turn, reply_of, turn_fits}
 use Rattle.ckr_desk.specs.Units.{HasDoneUnit, HasGoneBehind, IsLeftBehind, IsLeftByUnit, NotBehind, TakesBy}
 
 module _ {D : Type 0} (told : Type 0) (content : D → List ℕ) (may_leave : D → List ℕ → Type 0) (moment : D → ℕ) (left_since : D → ℕ → List ℕ → Type 0) (size : D → ℕ)
-    (old : DeskView D) (trusted : IsTrusted told content may_leave old) (turn : Turn) (run : ℕ)
-    (planned : plan_of old.store.layout (jobs_of old.jobs) turn ≡ Work run) (answer : Answer) where
+    (old : DeskView D) (trusted : IsTrusted told content may_leave old) (turn : MountedTurn) (run : ℕ)
+    (planned : plan_for old.store.layout (jobs_of old.jobs) turn ≡ Work run) (answer : Answer) where
   abbrev state : RoomyDesk
   state = state_of content old
 

@@ -55,11 +55,9 @@ use Rattle.ckr_desk_turn.specs.declared.plan.Plan.{Plan}
 use Rattle.ckr_desk_turn.specs.declared.plan.Plan.TheVariants.{Rest, Tell, Work, Pass, Take, Ask, Wait}
 use Rattle.ckr_desk_turn.specs.declared.reply.Reply.{Reply}
 use Rattle.ckr_desk_turn.specs.declared.reply.Reply.TheVariants.{Worked}
-use Rattle.ckr_desk_turn.specs.declared.reply.Turn.{Turn}
+use Rattle.ckr_desk_turn.specs.Turns.{carried_out, MountedTurn, plan_for, turn_of}
 use Rattle.ckr_desk_turn.specs.Desk.{DeskModel, TurnDone, done_by, progress_of, start_of, with_progress, work_of, jobs_of as jobs_of_desk}
 use Rattle.ckr_desk_turn.specs.Units.{unit_end}
-use Rattle.ckr_desk_turn.specs.Turns.{carried_out, turn_of}
-use Rattle.ckr_desk_turn.specs.Plans.{plan_of}
 use Rattle.ckr_desk_turn.specs.Spelling.{IsSpelled}
 use Rattle.ckr_volumes.specs.declared.layout.Layout.{Layout}
 use Rattle.ckr_volumes.specs.Header.{header_of}
@@ -129,8 +127,8 @@ waits-by Hold row initiator code reached id taken none = absurd (some-not-none _
 waits-by Silent row initiator code reached id taken none = refl
 
 module _ {D : Type 0} (told : Type 0) (content : D → List ℕ) (may_leave : D → List ℕ → Type 0) (moment : D → ℕ) (left_since : D → ℕ → List ℕ → Type 0) (size : D → ℕ)
-    (old : DeskView D) (trusted : IsTrusted told content may_leave old) (turn : Turn) (run : ℕ)
-    (planned : plan_of old.store.layout (jobs_of old.jobs) turn ≡ Work run) (answer : Answer) where
+    (old : DeskView D) (trusted : IsTrusted told content may_leave old) (turn : MountedTurn) (run : ℕ)
+    (planned : plan_for old.store.layout (jobs_of old.jobs) turn ≡ Work run) (answer : Answer) where
   abbrev layout : Layout
   layout = old.store.layout
 
@@ -143,10 +141,10 @@ module _ {D : Type 0} (told : Type 0) (content : D → List ℕ) (may_leave : D 
   abbrev desk : DeskModel
   desk = (state_of content old).desk
 
-  plans-desk : plan_of layout (jobs_of old.jobs) turn ≡ plan_of desk.layout (jobs_of_desk desk) turn
+  plans-desk : plan_for layout (jobs_of old.jobs) turn ≡ plan_for desk.layout (jobs_of_desk desk) turn
   plans-desk = plans-so layout old.jobs image desk turn trusted.stands
 
-  pub at-desk : plan_of desk.layout (jobs_of_desk desk) turn ≡ Work run
+  pub at-desk : plan_for desk.layout (jobs_of_desk desk) turn ≡ Work run
   at-desk = sym plans-desk ∙ planned
 
   pub turned : turn_of desk turn answer ≡ work_of answer run desk

@@ -23,7 +23,7 @@ use Rattle.ckr_points_invariant.proofs.Holders.Places.{outputs-among}
 use Rattle.ckr_points_invariant.proofs.Steps.Commits.{place_so}
 use Rattle.ckr_steps.specs.EntryRecords.{SameRecordsOutside}
 use Rattle.ckr_steps.specs.Writes.{Keeps}
-use Rattle.ckr_desk_turn.specs.declared.reply.Turn.{Turn}
+use Rattle.ckr_desk_turn.specs.Turns.{MountedTurn}
 use Rattle.ckr_volumes.specs.declared.layout.Layout.{Layout}
 use Rattle.ckr_volumes.specs.Layouts.{StandsIn}
 use Rattle.ckr_desk_memory.specs.EventChanges.{FirstEnters, IsEntered, check_name, check_name_in, has_space, is_of_run, without_first}
@@ -63,7 +63,7 @@ space-there most set (Some held) is fits = ap (λ (s : DataSet). nat_le most s.s
 
 -- ---- the data set for checkpoints of a step
 
-module _ (layout : Layout) (old : JobsView) (before : List ℕ) (desk : DeskModel) (turn : Turn) (run : ℕ) (on : RunningStepView) (to : IsToTake layout old before desk turn run on) where
+module _ (layout : Layout) (old : JobsView) (before : List ℕ) (desk : DeskModel) (turn : MountedTurn) (run : ℕ) (on : RunningStepView) (to : IsToTake layout old before desk turn run on) where
   abbrev pub is : IsDesk desk
   is = to.stands.is_desk
 
@@ -184,7 +184,7 @@ module _ (layout : Layout) (old : JobsView) (before : List ℕ) (desk : DeskMode
 
 -- ---- the desk behind it
 
-module _ (layout : Layout) (old new : JobsView) (before written after : List ℕ) (desk : DeskModel) (turn : Turn) (run count : ℕ) (on : RunningStepView) (to : IsToTake layout old before desk turn run on)
+module _ (layout : Layout) (old new : JobsView) (before written after : List ℕ) (desk : DeskModel) (turn : MountedTurn) (run count : ℕ) (on : RunningStepView) (to : IsToTake layout old before desk turn run on)
     (behind : IsWrittenBehind layout desk.office run count before written) (same : HasSameRecords desk.layout written after) where
   abbrev pub its : IsPair desk.layout desk.office before run on desk.running
   its = p layout old before desk turn run on to

@@ -23,7 +23,7 @@ use Rattle.ckr_desk_turn.specs.Due.{next_due}
 use Rattle.ckr_desk_turn.specs.Invariant.{IsDesk}
 use Rattle.ckr_desk_turn.specs.Taken.{served_by, taken_of}
 use Rattle.ckr_desk_turn.specs.Units.{StepProgress}
-use Rattle.ckr_desk_turn.specs.declared.reply.Turn.{Turn}
+use Rattle.ckr_desk_turn.specs.Turns.{MountedTurn}
 use Rattle.ckr_volumes.specs.declared.layout.Layout.{Layout}
 use Rattle.ckr_desk_refines.specs.Checkpoints.{IsStepOf, IsToTake}
 use Rattle.ckr_desk_refines.specs.Standing.{StandsForStep}
@@ -33,7 +33,7 @@ use Rattle.ckr_desk_refines.proofs.Units.OtherSteps.{same-start}
 use Rattle.ckr_desk_refines.proofs.Units.Plans.{WorksAt, asked_in, takes_in, works-at}
 use Rattle.ckr_desk_refines.proofs.Units.StepLists.{IsPair, pair-of}
 
-module _ (layout : Layout) (old : JobsView) (image : List ℕ) (desk : DeskModel) (turn : Turn) (run : ℕ) (on : RunningStepView) (to : IsToTake layout old image desk turn run on) where
+module _ (layout : Layout) (old : JobsView) (image : List ℕ) (desk : DeskModel) (turn : MountedTurn) (run : ℕ) (on : RunningStepView) (to : IsToTake layout old image desk turn run on) where
   abbrev pub its_desk : IsDesk desk
   its_desk = to.stands.is_desk
 

@@ -13,7 +13,7 @@ use Rattle.ckr_points.specs.Restart.{place_of, step_in}
 use Rattle.ckr_points.specs.Rows.{RunRow, TableSet, run_of, step_of_run}
 use Rattle.ckr_meaning.specs.EffectiveJob.{names_of}
 use Rattle.ckr_steps.specs.EntryRecords.{HasEntry, SameRecordsOutside}
-use Rattle.ckr_desk_turn.specs.declared.reply.Turn.{Turn}
+use Rattle.ckr_desk_turn.specs.Turns.{MountedTurn}
 use Rattle.ckr_volumes.specs.declared.layout.Layout.{Layout}
 use Rattle.ckr_volumes.specs.Layouts.{StandsIn}
 use Rattle.ckr_desk_memory.specs.Checkpoints.{IsCheckpointOf}
@@ -41,7 +41,7 @@ use Rattle.ckr_desk_refines.proofs.Entries.There.{has-then}
 use Rattle.ckr_desk_refines.proofs.Entries.Written.{has-behind}
 use Rattle.ckr_desk_refines.proofs.Units.StepLists.{IsPair}
 
-module _ (layout : Layout) (old : JobsView) (before : List ℕ) (desk : DeskModel) (turn : Turn) (run : ℕ) (on : RunningStepView) (to : IsToTake layout old before desk turn run on) (event : Event) (told : (taken_of run desk).event ≡ Some event) where
+module _ (layout : Layout) (old : JobsView) (before : List ℕ) (desk : DeskModel) (turn : MountedTurn) (run : ℕ) (on : RunningStepView) (to : IsToTake layout old before desk turn run on) (event : Event) (told : (taken_of run desk).event ≡ Some event) where
   fits : checkpoint_fits desk.office.tables.sets (pair layout old before desk turn run on to).going.row (pair layout old before desk turn run on to).going.start (pair layout old before desk turn run on to).step.progress ≡ true
   fits = fits-told layout old before desk turn run on to event told
 
@@ -93,7 +93,7 @@ module _ (layout : Layout) (old : JobsView) (before : List ℕ) (desk : DeskMode
 
 -- ---- the checkpoint that the jobs make
 
-module _ (layout : Layout) (old : JobsView) (before : List ℕ) (desk : DeskModel) (turn : Turn) (run : ℕ) (on : RunningStepView) (to : IsToTake layout old before desk turn run on) (made : Checkpoint) (c : IsCheckpointOf desk.office.tables on made) where
+module _ (layout : Layout) (old : JobsView) (before : List ℕ) (desk : DeskModel) (turn : MountedTurn) (run : ℕ) (on : RunningStepView) (to : IsToTake layout old before desk turn run on) (made : Checkpoint) (c : IsCheckpointOf desk.office.tables on made) where
   abbrev p : IsPair desk.layout desk.office before run on desk.running
   p = pair layout old before desk turn run on to
 

@@ -6,7 +6,7 @@ use Rattle.ckr_desk_turn.specs.Checkpoints.{checkpoint_fits}
 use Rattle.ckr_desk_turn.specs.Desk.{DeskModel, DeskStep, TurnDone, checkpoint_done, without_run}
 use Rattle.ckr_desk_turn.specs.Invariant.{IsDesk}
 use Rattle.ckr_desk_turn.specs.Taken.{taken_of}
-use Rattle.ckr_desk_turn.specs.declared.reply.Turn.{Turn}
+use Rattle.ckr_desk_turn.specs.Turns.{MountedTurn}
 use Rattle.ckr_volumes.specs.declared.layout.Layout.{Layout}
 use Rattle.ckr_desk_refines.specs.Checkpoints.{IsToTake}
 use Rattle.ckr_desk_refines.specs.Standing.{AllStand, PointsStand, StandsForDesk, StandsForStep}
@@ -15,7 +15,7 @@ use Rattle.ckr_desk_refines.proofs.Checkpoints.Turn.{due-so, none, numbered, pai
 use Rattle.ckr_desk_refines.proofs.Standing.Served.{checkpoint-stands, served-first}
 use Rattle.ckr_desk_refines.proofs.Units.StepLists.{IsPair, differ-put, others-stay}
 
-module _ (layout : Layout) (old new : JobsView) (image : List ℕ) (desk : DeskModel) (turn : Turn) (run : ℕ) (on : RunningStepView) (to : IsToTake layout old image desk turn run on) where
+module _ (layout : Layout) (old new : JobsView) (image : List ℕ) (desk : DeskModel) (turn : MountedTurn) (run : ℕ) (on : RunningStepView) (to : IsToTake layout old image desk turn run on) where
   abbrev its : IsPair desk.layout desk.office image run on desk.running
   its = pair layout old image desk turn run on to
 

@@ -1,6 +1,5 @@
 -- How many runs there are behind sound events.
 use Rattle.std.proofs.Common.{◌≡◌, ◌<◌, ◌+◌, ◌==◌, ◌&&◌, ℕ, suc, true, false, not, List, [], ◌∷◌, length, refl, sym, ◌∙◌, subst, Option, Some, None, arith}
-use Rattle.std.specs.List.{AllByRecursion}
 use Rattle.std.specs.Option.{is_some}
 use Rattle.std.proofs.lemmas.Bool.{false≢true}
 use Rattle.std.proofs.lemmas.List.{length-append}

@@ -21,9 +21,11 @@ use Rattle.ckr_events.specs.declared.event.Event.TheVariants.{Cancelled, Denied,
 use Rattle.ckr_events.specs.declared.event.Made.{Made}
 use Rattle.ckr_desk_memory.specs.View.{RunningStepView}
 use Rattle.ckr_desk_turn.specs.NextEvents.{IsWithinStep}
+use Rattle.ckr_desk_turn.specs.Turns.{IsMountedTurnOf, MountedTurn, plan_for}
 use Rattle.ckr_desk_turn.specs.Invariant.{IsDesk, IsTurnOf, has_code_while_off, is_accounted}
 use Rattle.ckr_desk_turn.proofs.Codes.{by-verdict}
 use Rattle.ckr_desk_turn.proofs.Deferred.Plans.{by-queued}
+use Rattle.ckr_desk_turn.proofs.Mounts.{plan_by-cases}
 use Rattle.ckr_desk_turn.proofs.NextEvents.BetweenSteps.{free-there, next_cases, row_of_found, state_found, state_on}
 use Rattle.ckr_desk_turn.proofs.NextEvents.Holders.{HoldsStep, on-holder}
 use Rattle.ckr_desk_turn.proofs.Opening.{running-stands}
@@ -299,10 +301,18 @@ module _ (desk : DeskModel) (is : IsDesk desk) (image : List ℕ) (seen : List R
         (λ none. subst (λ (o : Option RunRow). OfPlan Q (option_map_or (chosen_plan desk.layout (jobs_of desk) i) o (Rest Idle))) (sym none) tt)
         (λ row next. subst (λ (o : Option RunRow). OfPlan Q (option_map_or (chosen_plan desk.layout (jobs_of desk) i) o (Rest Idle))) (sym next) (chosen-tells row next))
 
-  pub turn-tells : (turn : Turn) → IsTurnOf desk.layout turn → OfPlan Q (plan_of desk.layout (jobs_of desk) turn)
+  planned-tells : (turn : Turn) → IsTurnOf desk.layout turn → OfPlan Q (plan_of desk.layout (jobs_of desk) turn)
   unfolding plan_of
-  turn-tells turn its =
+  planned-tells turn its =
       option-cases (run_on_initiator desk.office.tables turn.initiator)
       (λ free. subst (λ (o : Option RunRow). OfPlan Q (option_map_or (run_plan desk.layout (jobs_of desk) turn.fail) o (free_plan desk.layout (jobs_of desk) turn.initiator turn.fail))) (sym free)
       (free-tells turn.initiator its.above its.below free turn.fail))
       (λ row found. subst (λ (o : Option RunRow). OfPlan Q (option_map_or (run_plan desk.layout (jobs_of desk) turn.fail) o (free_plan desk.layout (jobs_of desk) turn.initiator turn.fail))) (sym found) (run-tells turn.initiator row found turn.fail))
+
+  -- whatever has become of the volumes that its step wants
+  pub turn-tells : (turn : MountedTurn) → IsMountedTurnOf desk.layout turn → OfPlan Q (plan_for desk.layout (jobs_of desk) turn)
+  turn-tells turn its =
+      plan_by-cases (OfPlan Q) desk.layout desk.office.tables (plan_of desk.layout (jobs_of desk) turn.turn) (planned-tells turn.turn its)
+      (λ step dd cause there. let numbers = cause_numbers cause in each.refused step.row.number dd numbers.0 numbers.1 numbers.2)
+      turn.taking
+      (λ need free. tt) (λ awaited. tt)

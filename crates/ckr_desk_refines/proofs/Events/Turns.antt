@@ -12,7 +12,8 @@ use Rattle.ckr_jcl.specs.declared.deck.Job.{Job}
 use Rattle.ckr_jcl_decks.specs.Deck.{stored_deck}
 use Rattle.ckr_desk_memory.specs.View.{JobsView}
 use Rattle.ckr_desk_turn.specs.NextEvents.{Comes, EventComes}
-use Rattle.ckr_desk_turn.specs.Invariant.{IsDesk, IsTurnOf, Keeps}
+use Rattle.ckr_desk_turn.specs.Turns.{carried_out, IsMountedTurnOf, MountedTurn, plan_for, turn_of}
+use Rattle.ckr_desk_turn.specs.Invariant.{IsDesk, Keeps}
 use Rattle.ckr_desk_turn.proofs.Select.{purged-keeps, released-keeps, stored-keeps}
 use Rattle.ckr_desk_turn.proofs.Turns.Initiator.{turn-keeps}
 use Rattle.ckr_desk_refines.specs.Commits.{HasCommitted, HasWithinRun}
@@ -28,11 +29,8 @@ use Rattle.ckr_desk_turn.specs.Model.Cards.{kept_of_stored}
 use Rattle.ckr_desk_turn.specs.declared.plan.Plan.{Plan}
 use Rattle.ckr_desk_turn.specs.declared.plan.Plan.TheVariants.{Rest, Tell, Work, Pass, Take, Ask, Wait}
 use Rattle.ckr_desk_turn.specs.declared.reply.Reply.{Reply}
-use Rattle.ckr_desk_turn.specs.declared.reply.Turn.{Turn}
 use Rattle.ckr_desk_turn.specs.Desk.{DeskModel, behind, done_by, jobs_of, purged, released, submitted, waiting}
 use Rattle.ckr_desk_turn.specs.Inquiries.{decide}
-use Rattle.ckr_desk_turn.specs.Turns.{carried_out, turn_of}
-use Rattle.ckr_desk_turn.specs.Plans.{plan_of}
 use Rattle.ckr_volumes.specs.declared.layout.Layout.{Layout}
 use Rattle.ckr_desk_refines.proofs.Events.Desk.{ended-stands, entered-stands, hold-stands, out-stands, restart-stands}
 use Rattle.ckr_desk_refines.proofs.Events.TurnEvents.{BehindStands, IsCommitted, coded-committed, each-committed, each-stands, held-committed}
@@ -65,30 +63,30 @@ carried-desk answer (Pass job other) desk reply event tells = absurd (some-not-n
 carried-desk answer (Take job) desk reply event tells = absurd (some-not-none event (sym (ap event_in tells)))
 carried-desk answer (Wait job code) desk reply event tells = absurd (some-not-none event (sym (ap event_in tells)))
 
-turn-comes : (desk : DeskModel) (turn : Turn) (answer : Answer) (reply : Reply) (event : Event) → IsDesk desk → IsTurnOf desk.layout turn → decide answer (plan_of desk.layout (jobs_of desk) turn) ≡ Tell reply event → Comes desk event × IsDesk (behind event None desk)
+turn-comes : (desk : DeskModel) (turn : MountedTurn) (answer : Answer) (reply : Reply) (event : Event) → IsDesk desk → IsMountedTurnOf desk.layout turn → decide answer (plan_for desk.layout (jobs_of desk) turn) ≡ Tell reply event → Comes desk event × IsDesk (behind event None desk)
 unfolding turn_of
 turn-comes desk turn answer reply event is its tells =
-    let plan : Plan = plan_of desk.layout (jobs_of desk) turn in
+    let plan : Plan = plan_for desk.layout (jobs_of desk) turn in
     let keeps : Keeps desk (carried_out answer plan desk) = turn-keeps desk turn answer is its.above its.below in
     (subst (EventComes desk) (carried-event answer plan desk reply event tells) keeps.comes, subst IsDesk (carried-desk answer plan desk reply event tells) keeps.kept)
 
-pub told-committed : (layout : Layout) (jobs : JobsView) (before : List ℕ) (desk : DeskModel) (turn : Turn) (answer : Answer) (reply : Reply) (event : Event) → StandsForDesk layout jobs before desk → IsTurnOf desk.layout turn → decide answer (plan_of desk.layout (jobs_of desk) turn) ≡ Tell reply event
+pub told-committed : (layout : Layout) (jobs : JobsView) (before : List ℕ) (desk : DeskModel) (turn : MountedTurn) (answer : Answer) (reply : Reply) (event : Event) → StandsForDesk layout jobs before desk → IsMountedTurnOf desk.layout turn → decide answer (plan_for desk.layout (jobs_of desk) turn) ≡ Tell reply event
     → (image : List ℕ) → HasSameRecords desk.layout before image → HasCommitted desk.layout (behind event None desk).office image
 told-committed layout jobs before desk turn answer reply event stands its tells image same =
     let comes = turn-comes desk turn answer reply event stands.is_desk its tells in
     let so : IsCommitted desk before event =
     subst (OfPlan (IsCommitted desk before)) tells
-    (answer-tells (IsCommitted desk before) answer (plan_of desk.layout (jobs_of desk) turn)
+    (answer-tells (IsCommitted desk before) answer (plan_for desk.layout (jobs_of desk) turn)
     (turn-tells desk stands.is_desk before jobs.running stands.running stands.committed (IsCommitted desk before) (each-committed desk stands.is_desk before stands.committed) turn its)) in
     committed-moves desk.layout (behind event None desk).office before image comes.1.kept same (so comes.0 comes.1)
 
-pub told-stands : (layout : Layout) (old new : JobsView) (before after : List ℕ) (desk : DeskModel) (turn : Turn) (answer : Answer) (reply : Reply) (event : Event) → StandsForDesk layout old before desk → IsTurnOf desk.layout turn → decide answer (plan_of desk.layout (jobs_of desk) turn) ≡ Tell reply event
+pub told-stands : (layout : Layout) (old new : JobsView) (before after : List ℕ) (desk : DeskModel) (turn : MountedTurn) (answer : Answer) (reply : Reply) (event : Event) → StandsForDesk layout old before desk → IsMountedTurnOf desk.layout turn → decide answer (plan_for desk.layout (jobs_of desk) turn) ≡ Tell reply event
     → KnowsItsEntry event desk old.points → HaveMoved event None old new → HasSameRecords desk.layout before after → StandsForDesk layout new after (behind event None desk)
 told-stands layout old new before after desk turn answer reply event stands its tells knows moved same =
     let comes = turn-comes desk turn answer reply event stands.is_desk its tells in
     let so : BehindStands layout old new before after desk stands same event =
     subst (OfPlan (BehindStands layout old new before after desk stands same)) tells
-    (answer-tells (BehindStands layout old new before after desk stands same) answer (plan_of desk.layout (jobs_of desk) turn)
+    (answer-tells (BehindStands layout old new before after desk stands same) answer (plan_for desk.layout (jobs_of desk) turn)
     (turn-tells desk stands.is_desk before old.running stands.running stands.committed (BehindStands layout old new before after desk stands same) (each-stands layout old new before after desk stands same) turn its)) in
     so comes.0 comes.1 knows moved (told-committed layout old before desk turn answer reply event stands its tells after same)
 
@@ -98,11 +96,11 @@ carried-waits answer (Ask inquiry) desk job code waits = ap (λ (plan : Plan). (
 carried-waits answer (Wait other its) desk job code waits = ap (λ (plan : Plan). (done_by plan desk).desk) waits
 carried-waits answer _ desk job code waits = cc
 
-pub turn-waits : (layout : Layout) (old new : JobsView) (image : List ℕ) (desk : DeskModel) (turn : Turn) (answer : Answer) (job : ℕ) (code : Code) → StandsForDesk layout old image desk → IsTurnOf desk.layout turn → decide answer (plan_of desk.layout (jobs_of desk) turn) ≡ Wait job code
+pub turn-waits : (layout : Layout) (old new : JobsView) (image : List ℕ) (desk : DeskModel) (turn : MountedTurn) (answer : Answer) (job : ℕ) (code : Code) → StandsForDesk layout old image desk → IsMountedTurnOf desk.layout turn → decide answer (plan_for desk.layout (jobs_of desk) turn) ≡ Wait job code
     → HasWaited job code old new → StandsForDesk layout new image (turn_of desk turn answer).desk
 unfolding turn_of
 turn-waits layout old new image desk turn answer job code stands its waits waited =
-    subst (StandsForDesk layout new image) (sym (carried-waits answer (plan_of desk.layout (jobs_of desk) turn) desk job code waits)) (waited-stands layout old new image desk job code stands waited)
+    subst (StandsForDesk layout new image) (sym (carried-waits answer (plan_for desk.layout (jobs_of desk) turn) desk job code waits)) (waited-stands layout old new image desk job code stands waited)
 
 -- ---- the other calls
 

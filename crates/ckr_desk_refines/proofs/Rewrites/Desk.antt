@@ -18,7 +18,7 @@ use Rattle.ckr_desk_refines.specs.Standing.{AllStand, PointsStand, StandsForDesk
 use Rattle.ckr_steps.specs.declared.files.Files.{Files}
 use Rattle.ckr_steps.specs.declared.files.RecordSource.TheVariants.{InSet}
 use Rattle.ckr_desk_turn.specs.Desk.{DeskModel, DeskStep, TurnDone, without_run, work_of}
-use Rattle.ckr_desk_turn.specs.declared.reply.Turn.{Turn}
+use Rattle.ckr_desk_turn.specs.Turns.{MountedTurn}
 use Rattle.ckr_desk_turn.specs.Units.{arrived}
 use Rattle.ckr_volumes.specs.declared.layout.Layout.{Layout}
 use Rattle.ckr_volumes.specs.Layouts.{StandsIn}
@@ -30,7 +30,7 @@ use Rattle.ckr_desk_refines.proofs.Rewrites.StepLists.{others-stand, put-differ}
 use Rattle.ckr_desk_refines.proofs.Rewrites.OtherSteps.{other-stands}
 use Rattle.ckr_desk_refines.proofs.Rewrites.OwnStep.{goes-in-place, own-stands, stored, updated-shown}
 
-module _ (old : JobsView) (before after : List ℕ) (desk : DeskModel) (turn : Turn) (run : ℕ) (on moved : RunningStepView) (place : ℕ) (image : List ℕ) (taken : ℕ) (asks : AsksToRewrite desk.layout old before after desk turn run on moved place image taken) where
+module _ (old : JobsView) (before after : List ℕ) (desk : DeskModel) (turn : MountedTurn) (run : ℕ) (on moved : RunningStepView) (place : ℕ) (image : List ℕ) (taken : ℕ) (asks : AsksToRewrite desk.layout old before after desk turn run on moved place image taken) where
   abbrev is : IsDesk desk
   is = asks.stands.is_desk
 
@@ -92,7 +92,7 @@ module _ (old : JobsView) (before after : List ℕ) (desk : DeskModel) (turn : T
     }
 
 -- the desk behind the unit
-pub stands-then : (layout : Layout) (old : JobsView) (before after : List ℕ) (desk : DeskModel) (turn : Turn) (run : ℕ) (on moved : RunningStepView) (place : ℕ) (image : List ℕ) (taken : ℕ) (answer : Answer) → AsksToRewrite layout old before after desk turn run on moved place image taken
+pub stands-then : (layout : Layout) (old : JobsView) (before after : List ℕ) (desk : DeskModel) (turn : MountedTurn) (run : ℕ) (on moved : RunningStepView) (place : ℕ) (image : List ℕ) (taken : ℕ) (answer : Answer) → AsksToRewrite layout old before after desk turn run on moved place image taken
     → (put moved_on : JobsView) → IsPutBack run moved old put → (event : Event) → (work_of answer run desk).event ≡ Some event → HaveMoved event None put moved_on
     → (told written : List ℕ) → HasSameRecords desk.layout after told → (name : Name) (set : DataSet) → moved.step.files.first ≡ InSet name → set_of moved.sets name ≡ Some set
     → IsWritten layout set place image told written → StandsForDesk layout moved_on written (work_of answer run desk).desk

@@ -25,7 +25,7 @@ use Rattle.ckr_desk_refines.specs.Moves.{DiffersAt, HasSameRecords}
 use Rattle.ckr_steps.specs.declared.files.RecordSource.TheVariants.{InSet}
 use Rattle.ckr_steps.specs.Writes.{Keeps}
 use Rattle.ckr_desk_turn.specs.Desk.{DeskModel, TurnDone, work_of}
-use Rattle.ckr_desk_turn.specs.declared.reply.Turn.{Turn}
+use Rattle.ckr_desk_turn.specs.Turns.{MountedTurn}
 use Rattle.ckr_volumes.specs.Records.{records_on}
 use Rattle.ckr_desk_refines.proofs.Rewrites.Requests.{IsAsked, done, event, event-is, is-asked, kept-then, name-is, office-is, still, then, work-is}
 use Rattle.ckr_desk_refines.proofs.Rewrites.Office.{next, next-at}
@@ -37,7 +37,7 @@ use Rattle.ckr_desk_memory.proofs.Masters.{by-role}
 abbrev record_so : ℕ → List ℕ → Name → RewriteRecord
 record_so place image name = record { name = name; place = place; image = image }
 
-module _ (old : JobsView) (before after : List ℕ) (desk : DeskModel) (turn : Turn) (run : ℕ) (on moved : RunningStepView) (place : ℕ) (image : List ℕ) (taken : ℕ) (asks : AsksToRewrite desk.layout old before after desk turn run on moved place image taken) where
+module _ (old : JobsView) (before after : List ℕ) (desk : DeskModel) (turn : MountedTurn) (run : ℕ) (on moved : RunningStepView) (place : ℕ) (image : List ℕ) (taken : ℕ) (asks : AsksToRewrite desk.layout old before after desk turn run on moved place image taken) where
   is : IsDesk desk
   is = asks.stands.is_desk
 

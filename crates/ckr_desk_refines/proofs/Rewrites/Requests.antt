@@ -36,7 +36,7 @@ use Rattle.ckr_steps.specs.Units.{taken_of}
 use Rattle.ckr_steps.proofs.NextUnits.{taken_is}
 use Rattle.ckr_desk_turn.specs.Desk.{DeskModel, DeskStep, TurnDone, progress_of, progress_unless, work_of}
 use Rattle.ckr_desk_turn.specs.Jobs.{as_stopped}
-use Rattle.ckr_desk_turn.specs.declared.reply.Turn.{Turn}
+use Rattle.ckr_desk_turn.specs.Turns.{MountedTurn}
 use Rattle.ckr_desk_refines.proofs.Rewrites.Office.{behind, behind-is, lengths_now}
 use Rattle.ckr_desk_refines.proofs.Rewrites.Legs.{IsLedStep, led-step}
 use Rattle.ckr_desk_refines.proofs.Rewrites.StepLists.{StandsFound, stands-found}
@@ -62,7 +62,7 @@ pub record IsAsked (before after : List ℕ) (desk : DeskModel) (run : ℕ) (on 
   pub same : (name : Name) → set_of moved.sets name ≡ set_of on.sets name
   pub next : taken ≡ suc step.progress.taken
 
-pub is-asked : (old : JobsView) (before after : List ℕ) (desk : DeskModel) (turn : Turn) (run : ℕ) (on moved : RunningStepView) (place : ℕ) (image : List ℕ) (taken : ℕ) → AsksToRewrite desk.layout old before after desk turn run on moved place image taken
+pub is-asked : (old : JobsView) (before after : List ℕ) (desk : DeskModel) (turn : MountedTurn) (run : ℕ) (on moved : RunningStepView) (place : ℕ) (image : List ℕ) (taken : ℕ) → AsksToRewrite desk.layout old before after desk turn run on moved place image taken
     → IsAsked before after desk run on moved place image taken
 is-asked old before after desk turn run on moved place image taken asks =
     let is : IsDesk desk = asks.stands.is_desk in

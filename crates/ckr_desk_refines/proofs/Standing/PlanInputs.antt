@@ -10,6 +10,8 @@ use Rattle.ckr_points.specs.Rows.{RunRow, TablesModel}
 use Rattle.ckr_desk_turn.specs.Select.{next_run, run_on_initiator}
 use Rattle.ckr_desk_turn.specs.Codes.{code_plan, initiator_of, kept_reached, reached_by, running_reached}
 use Rattle.ckr_desk_turn.specs.Jobs.{TurnJobs, TurnStep, is_asked, is_failed, waiting_code}
+use Rattle.ckr_desk_turn.specs.Mounts.{plan_by}
+use Rattle.ckr_desk_turn.specs.Turns.{MountedTurn, plan_for}
 use Rattle.ckr_desk_turn.specs.Plans.{chosen_plan, fail_plan, free_plan, is_within, placed_plan, plan_of, run_plan, running_plan, system_failure, unmarked_plan, waiting_plan}
 use Rattle.ckr_desk_turn.specs.declared.failed_run.FailedRun.{FailedRun}
 use Rattle.ckr_desk_turn.specs.declared.plan.Plan.{Plan}
@@ -80,10 +82,14 @@ module _ (layout : Layout) (tables : TablesModel) (failed : List FailedRun) (one
       by None = refl
       by (Some row) = same-chosen initiator row
 
-  pub same-plan : (turn : Turn) → plan_of layout first turn ≡ plan_of layout second turn
+  same-planned : (turn : Turn) → plan_of layout first turn ≡ plan_of layout second turn
   unfolding plan_of
-  same-plan turn = by (run_on_initiator tables turn.initiator)
+  same-planned turn = by (run_on_initiator tables turn.initiator)
     where
       by : (o : Option RunRow) → option_map_or (run_plan layout first turn.fail) o (free_plan layout first turn.initiator turn.fail) ≡ option_map_or (run_plan layout second turn.fail) o (free_plan layout second turn.initiator turn.fail)
       by None = same-free turn.initiator turn.fail
       by (Some row) = same-run turn.fail row
+
+  -- and what its step wants is read of the tables alone
+  pub same-plan : (turn : MountedTurn) → plan_for layout first turn ≡ plan_for layout second turn
+  same-plan turn = ap (plan_by layout tables turn.taking) (same-planned turn.turn)

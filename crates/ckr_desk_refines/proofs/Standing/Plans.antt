@@ -19,8 +19,7 @@ use Rattle.ckr_steps.specs.Places.{ShowsWithin}
 use Rattle.ckr_desk_turn.specs.Desk.{DeskModel, DeskStep, seen, seen_from, seen_step, start_of, jobs_of as jobs_of_desk}
 use Rattle.ckr_desk_turn.specs.Jobs.{TurnJobs, TurnStep, as_stopped}
 use Rattle.ckr_desk_turn.specs.declared.failed_run.FailedRun.{FailedRun}
-use Rattle.ckr_desk_turn.specs.Plans.{plan_of}
-use Rattle.ckr_desk_turn.specs.declared.reply.Turn.{Turn}
+use Rattle.ckr_desk_turn.specs.Turns.{MountedTurn, plan_for}
 use Rattle.ckr_desk_refines.specs.Standing.{AllStand, StandsForStep, StandsForDesk}
 use Rattle.ckr_volumes.specs.declared.layout.Layout.{Layout}
 use Rattle.ckr_desk_refines.proofs.Standing.Lengths.{lengths-so}
@@ -113,11 +112,11 @@ abbrev with_running : TablesModel → List FailedRun → List TurnStep → TurnJ
 with_running tables failed running = record { tables = tables; running = running; failed = failed }
 
 -- what a turn comes to by the jobs in memory is what it comes to at the desk
-pub plans-so : (layout : Layout) (jobs : JobsView) (image : List ℕ) (desk : DeskModel) (turn : Turn) → StandsForDesk layout jobs image desk → plan_of layout (jobs_of jobs) turn ≡ plan_of desk.layout (jobs_of_desk desk) turn
+pub plans-so : (layout : Layout) (jobs : JobsView) (image : List ℕ) (desk : DeskModel) (turn : MountedTurn) → StandsForDesk layout jobs image desk → plan_for layout (jobs_of jobs) turn ≡ plan_for desk.layout (jobs_of_desk desk) turn
 unfolding jobs_of
 plans-so layout jobs image desk turn stands =
-    ap (λ layout. plan_of layout (with_running jobs.tables.desk jobs.failed (map (running_of jobs.tables.desk) jobs.running)) turn) (sym stands.layout_is)
-    ∙ ap (λ tables. plan_of desk.layout (with_running tables jobs.failed (map (running_of tables) jobs.running)) turn) stands.tables
-    ∙ ap (λ failed. plan_of desk.layout (with_running desk.office.tables failed (map (running_of desk.office.tables) jobs.running)) turn) stands.failed
+    ap (λ layout. plan_for layout (with_running jobs.tables.desk jobs.failed (map (running_of jobs.tables.desk) jobs.running)) turn) (sym stands.layout_is)
+    ∙ ap (λ tables. plan_for desk.layout (with_running tables jobs.failed (map (running_of tables) jobs.running)) turn) stands.tables
+    ∙ ap (λ failed. plan_for desk.layout (with_running desk.office.tables failed (map (running_of desk.office.tables) jobs.running)) turn) stands.failed
     ∙ same-plan desk.layout desk.office.tables desk.failed (map (running_of desk.office.tables) jobs.running) (jobs_of_desk desk).running
     (same-running desk stands.is_desk image jobs.running stands.running) turn

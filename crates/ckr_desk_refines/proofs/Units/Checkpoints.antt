@@ -7,13 +7,11 @@ use Rattle.ckr_console.specs.declared.question.Answer.TheVariants.{Silent}
 use Rattle.ckr_desk_memory.specs.EventChanges.{is_of_run, served_step, without_first}
 use Rattle.ckr_desk_memory.specs.View.{JobsView, RunningStepView}
 use Rattle.ckr_desk_turn.specs.Desk.{DeskModel, DeskStep, checkpoint_done, done_by, jobs_of, with_change, without_run}
-use Rattle.ckr_desk_turn.specs.Invariant.{IsTurnOf, Keeps}
-use Rattle.ckr_desk_turn.specs.Plans.{plan_of}
-use Rattle.ckr_desk_turn.specs.Turns.{carried_out, turn_of}
+use Rattle.ckr_desk_turn.specs.Turns.{carried_out, IsMountedTurnOf, MountedTurn, plan_for, turn_of}
+use Rattle.ckr_desk_turn.specs.Invariant.{Keeps}
 use Rattle.ckr_desk_turn.specs.declared.plan.Plan.{Plan}
 use Rattle.ckr_desk_turn.specs.declared.plan.Plan.TheVariants.{Pass}
 use Rattle.ckr_desk_turn.specs.declared.reply.Reply.{Reply}
-use Rattle.ckr_desk_turn.specs.declared.reply.Turn.{Turn}
 use Rattle.ckr_desk_turn.proofs.Turns.Initiator.{turn-keeps}
 use Rattle.ckr_desk_refines.specs.Standing.{AllStand, PointsStand, StandsForDesk, StandsForStep, differ}
 use Rattle.ckr_desk_refines.specs.Unit.{HasPassed}
@@ -25,12 +23,12 @@ use Rattle.ckr_desk_refines.proofs.Units.Plans.{asked_in}
 use Rattle.ckr_desk_refines.proofs.Units.StepLists.{IsPair, differ-put, others-stay, pair-of, seen-of}
 
 -- a turn that passes keeps the desk
-pass-keeps : (desk : DeskModel) (turn : Turn) (run : ℕ) (reply : Reply) → (answer : Answer) → Keeps desk (turn_of desk turn answer) → plan_of desk.layout (jobs_of desk) turn ≡ Pass run reply → Keeps desk (done_by (Pass run reply) desk)
+pass-keeps : (desk : DeskModel) (turn : MountedTurn) (run : ℕ) (reply : Reply) → (answer : Answer) → Keeps desk (turn_of desk turn answer) → plan_for desk.layout (jobs_of desk) turn ≡ Pass run reply → Keeps desk (done_by (Pass run reply) desk)
 unfolding turn_of
 pass-keeps desk turn run reply answer keeps planned = subst (λ (plan : Plan). Keeps desk (carried_out answer plan desk)) planned keeps
 
-module _ (layout : Layout) (old new : JobsView) (image : List ℕ) (desk : DeskModel) (turn : Turn) (run : ℕ) (reply : Reply) (stands : StandsForDesk layout old image desk)
-    (planned : plan_of desk.layout (jobs_of desk) turn ≡ Pass run reply) where
+module _ (layout : Layout) (old new : JobsView) (image : List ℕ) (desk : DeskModel) (turn : MountedTurn) (run : ℕ) (reply : Reply) (stands : StandsForDesk layout old image desk)
+    (planned : plan_for desk.layout (jobs_of desk) turn ≡ Pass run reply) where
   due : IsDue desk run Checkpoint
   due = is-due desk turn run Checkpoint stands.is_desk (ap asked_in planned)
 
@@ -71,7 +69,7 @@ module _ (layout : Layout) (old new : JobsView) (image : List ℕ) (desk : DeskM
   changed : with_change run checkpoint_done desk.running ≡ own ∷ without_run run desk.running
   changed = changed-first run checkpoint_done pair.step desk.running pair.at
 
-  pub passed-stands : IsTurnOf desk.layout turn → HasPassed run old new → StandsForDesk layout new image (done_by (Pass run reply) desk).desk
+  pub passed-stands : IsMountedTurnOf desk.layout turn → HasPassed run old new → StandsForDesk layout new image (done_by (Pass run reply) desk).desk
   passed-stands its passed = record {
     layout_is = stands.layout_is;
     is_desk = (pass-keeps desk turn run reply Silent (turn-keeps desk turn Silent stands.is_desk its.above its.below) planned).kept;

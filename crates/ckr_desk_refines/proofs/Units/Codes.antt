@@ -39,7 +39,7 @@ use Rattle.ckr_desk_turn.specs.declared.inquiry.Inquiry.{Inquiry}
 use Rattle.ckr_desk_turn.specs.declared.plan.Plan.{Plan}
 use Rattle.ckr_desk_turn.specs.declared.plan.Plan.TheVariants.{Rest, Wait}
 use Rattle.ckr_desk_turn.specs.declared.reply.Reply.TheVariants.{AwaitingReply}
-use Rattle.ckr_desk_turn.specs.declared.reply.Turn.{Turn}
+use Rattle.ckr_desk_turn.specs.Turns.{MountedTurn}
 use Rattle.ckr_desk_turn.specs.Units.{StepProgress, unit_end}
 use Rattle.ckr_volumes.specs.declared.layout.Layout.{Layout}
 use Rattle.ckr_desk_refines.specs.Unit.{IsPutBack, StandsBehindUnit}
@@ -103,7 +103,7 @@ code-behind answer layout tables row initiator lodged code reached progress desk
     (λ judged is. asked-behind answer (inquiry_of row initiator lodged code reached None 0) progress desk event is)
     (λ entry judged there is. asked-behind answer (inquiry_of row initiator lodged code reached (Some entry.kept.id) entry.point.taken) progress desk event is)
 
-module _ (layout : Layout) (old : JobsView) (before after : List ℕ) (desk : DeskModel) (turn : Turn) (run : ℕ) (on moved : RunningStepView) (code : Code) (unit : StandsBehindUnit layout old before after desk turn run on moved (Abend code)) where
+module _ (layout : Layout) (old : JobsView) (before after : List ℕ) (desk : DeskModel) (turn : MountedTurn) (run : ℕ) (on moved : RunningStepView) (code : Code) (unit : StandsBehindUnit layout old before after desk turn run on moved (Abend code)) where
   abbrev p : IsPair desk.layout desk.office before run on desk.running
   p = pair layout old before after desk turn run on moved (Abend code) unit
 

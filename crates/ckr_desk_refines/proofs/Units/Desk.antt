@@ -17,7 +17,7 @@ use Rattle.ckr_steps.specs.Places.{GoesOn, GoesTo, ShowsWithin, IsStepPlace}
 use Rattle.ckr_steps.specs.StepUnit.{HasWorked}
 use Rattle.ckr_steps.specs.Writes.{Keeps}
 use Rattle.ckr_desk_turn.specs.Desk.{DeskModel, DeskStep, TurnDone, progress_of, unit_done, with_progress, without_run, work_of}
-use Rattle.ckr_desk_turn.specs.declared.reply.Turn.{Turn}
+use Rattle.ckr_desk_turn.specs.Turns.{MountedTurn}
 use Rattle.ckr_desk_turn.specs.Units.{StepProgress, UnitEnd, unit_end, went}
 use Rattle.ckr_volumes.specs.declared.layout.Layout.{Layout}
 use Rattle.ckr_desk_refines.specs.Unit.{IsPutBack, StandsBehindUnit}
@@ -27,7 +27,7 @@ use Rattle.ckr_desk_refines.proofs.Units.StepLists.{IsPair, differ-put, others-s
 use Rattle.ckr_desk_refines.proofs.Units.OtherSteps.{other-stays}
 use Rattle.ckr_desk_refines.proofs.Units.OwnStep.{own-stands}
 
-module _ (layout : Layout) (old : JobsView) (before after : List ℕ) (desk : DeskModel) (turn : Turn) (run : ℕ) (on moved : RunningStepView) (worked : Worked) (unit : StandsBehindUnit layout old before after desk turn run on moved worked) where
+module _ (layout : Layout) (old : JobsView) (before after : List ℕ) (desk : DeskModel) (turn : MountedTurn) (run : ℕ) (on moved : RunningStepView) (worked : Worked) (unit : StandsBehindUnit layout old before after desk turn run on moved worked) where
   pub its-desk : IsDesk desk
   its-desk = unit.stands.is_desk
 
@@ -103,7 +103,7 @@ module _ (layout : Layout) (old : JobsView) (before after : List ℕ) (desk : De
 
 -- ---- the step goes on
 
-module _ (layout : Layout) (old : JobsView) (before after : List ℕ) (desk : DeskModel) (turn : Turn) (run : ℕ) (on moved : RunningStepView) (taken : ℕ) (unit : StandsBehindUnit layout old before after desk turn run on moved (Went taken)) where
+module _ (layout : Layout) (old : JobsView) (before after : List ℕ) (desk : DeskModel) (turn : MountedTurn) (run : ℕ) (on moved : RunningStepView) (taken : ℕ) (unit : StandsBehindUnit layout old before after desk turn run on moved (Went taken)) where
   abbrev p : IsPair desk.layout desk.office before run on desk.running
   p = pair layout old before after desk turn run on moved (Went taken) unit
 

@@ -19,8 +19,7 @@ use Rattle.ckr_steps.specs.Units.{due_of}
 use Rattle.ckr_desk_turn.specs.Desk.{DeskModel, DeskStep, jobs_of, seen_from}
 use Rattle.ckr_desk_turn.specs.Due.{next_due}
 use Rattle.ckr_desk_turn.specs.Jobs.{TurnStep, as_stopped}
-use Rattle.ckr_desk_turn.specs.declared.reply.Turn.{Turn}
-use Rattle.ckr_desk_turn.specs.Plans.{plan_of}
+use Rattle.ckr_desk_turn.specs.Turns.{MountedTurn, plan_for}
 use Rattle.ckr_desk_turn.specs.Units.{StepProgress}
 use Rattle.ckr_desk_refines.proofs.Standing.StepViews.{place-due}
 use Rattle.ckr_desk_refines.proofs.Units.OtherSteps.{same-start}
@@ -54,9 +53,9 @@ due-found desk run due step found is_due uncoded =
       uncoded = none;
     }
 
-pub is-due : (desk : DeskModel) (turn : Turn) (run : ℕ) (due : NextDue) → IsDesk desk → asked_in (plan_of desk.layout (jobs_of desk) turn) ≡ Some (run, due) → IsDue desk run due
+pub is-due : (desk : DeskModel) (turn : MountedTurn) (run : ℕ) (due : NextDue) → IsDesk desk → asked_in (plan_for desk.layout (jobs_of desk) turn) ≡ Some (run, due) → IsDue desk run due
 is-due desk turn run due is planned =
-    let at : WorksAt desk run due (takes_in (plan_of desk.layout (jobs_of desk) turn)) = works-at desk turn run due (takes_in (plan_of desk.layout (jobs_of desk) turn)) is planned refl in
+    let at : WorksAt desk run due (takes_in (plan_for desk.layout (jobs_of desk) turn)) = works-at desk turn run due (takes_in (plan_for desk.layout (jobs_of desk) turn)) is planned refl in
     let found : FoundStep desk.office desk.running at.row.number at.works.step = found-step desk.office at.row.number desk.running at.works.step is.going at.works.step_at in
     subst (λ n. IsDue desk n due) at.works.numbered (due-found desk at.row.number due at.works.step found at.works.is_due at.works.uncoded)
 

@@ -57,10 +57,9 @@ use Rattle.ckr_desk_turn.specs.Inquiries.{decide}
 use Rattle.ckr_desk_turn.specs.declared.plan.Plan.{Plan}
 use Rattle.ckr_desk_turn.specs.declared.plan.Plan.TheVariants.{Ask, Rest, Wait, Work}
 use Rattle.ckr_desk_turn.specs.declared.reply.Reply.TheVariants.{AwaitingReply}
-use Rattle.ckr_desk_turn.specs.declared.reply.Turn.{Turn}
+use Rattle.ckr_desk_turn.specs.Turns.{MountedTurn, plan_for}
 use Rattle.ckr_desk_turn.specs.Desk.{DeskModel, TurnDone, jobs_of, seen, seen_from, with_progress, work_of}
 use Rattle.ckr_desk_turn.specs.Jobs.{TurnStep, as_stopped, effect_entry}
-use Rattle.ckr_desk_turn.specs.Plans.{plan_of}
 use Rattle.ckr_desk_turn.specs.Units.{StepProgress, finished_by, unit_end}
 use Rattle.ckr_volumes.specs.declared.layout.Layout.{Layout}
 use Rattle.ckr_desk_refines.specs.Forecast.{IsAsForetold, IsTold}
@@ -177,8 +176,8 @@ as-many tables one two same =
     ∙ outputs-many (run_of tables two.run) one two
     ∙ sym (ap length (stopped-lengths two.code (plain_of tables two)))
 
-module _ (layout : Layout) (jobs : JobsView) (image : List ℕ) (desk : DeskModel) (turn : Turn) (run : ℕ) (on : RunningStepView)
-    (stands : StandsForDesk layout jobs image desk) (planned : plan_of desk.layout (jobs_of desk) turn ≡ Work run) (found : find (is_of_run run) jobs.running ≡ Some on)
+module _ (layout : Layout) (jobs : JobsView) (image : List ℕ) (desk : DeskModel) (turn : MountedTurn) (run : ℕ) (on : RunningStepView)
+    (stands : StandsForDesk layout jobs image desk) (planned : plan_for desk.layout (jobs_of desk) turn ≡ Work run) (found : find (is_of_run run) jobs.running ≡ Some on)
     (there : AreThere on.step.files on.sets) where
   abbrev p : IsPair desk.layout desk.office image run on desk.running
   p = pair-found layout jobs image desk turn run on stands planned found
@@ -338,8 +337,8 @@ module _ (layout : Layout) (jobs : JobsView) (image : List ℕ) (desk : DeskMode
   answer-told answer (Abend code) looked row at foretold is = told-by-both _ (work_of answer run desk).event (coded-told code looked answer row at) foretold is
 
 -- what the turn tells of the unit is as the answer before it foretells
-pub foretold-so : (layout : Layout) (jobs : JobsView) (image : List ℕ) (desk : DeskModel) (turn : Turn) (run : ℕ) (on : RunningStepView) (worked : Worked) (answer : Answer)
-    → StandsForDesk layout jobs image desk → plan_of desk.layout (jobs_of desk) turn ≡ Work run → find (is_of_run run) jobs.running ≡ Some on → AreThere on.step.files on.sets
+pub foretold-so : (layout : Layout) (jobs : JobsView) (image : List ℕ) (desk : DeskModel) (turn : MountedTurn) (run : ℕ) (on : RunningStepView) (worked : Worked) (answer : Answer)
+    → StandsForDesk layout jobs image desk → plan_for desk.layout (jobs_of desk) turn ≡ Work run → find (is_of_run run) jobs.running ≡ Some on → AreThere on.step.files on.sets
     → HasLooked (Unit {0}) image layout on.step on.sets worked → (row : RunRow) → run_of desk.office.tables run ≡ Some row
     → (foretold : Event) → event_in (decide answer (told_by layout desk.office.tables row (running_of desk.office.tables on) worked)) ≡ Some foretold → IsTold foretold (work_of answer run desk).event
 foretold-so layout jobs image desk turn run on worked answer stands planned found there looked row at foretold is =

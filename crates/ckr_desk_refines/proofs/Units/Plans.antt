@@ -14,6 +14,7 @@ use Rattle.ckr_events.specs.declared.event.Ending.TheVariants.{Completed as Comp
 use Rattle.ckr_events.specs.declared.event.Made.{Made}
 use Rattle.ckr_desk_turn.proofs.Codes.{by-verdict}
 use Rattle.ckr_desk_turn.proofs.Deferred.Plans.{by-queued}
+use Rattle.ckr_desk_turn.proofs.Mounts.{plan_by-cases}
 use Rattle.ckr_desk_turn.proofs.NextEvents.BetweenSteps.{row_of_found}
 use Rattle.ckr_desk_turn.specs.Invariant.{IsDesk}
 use Rattle.ckr_meaning.specs.declared.place.Place.{Place}
@@ -30,7 +31,7 @@ use Rattle.ckr_desk_turn.specs.declared.plan.Plan.{Plan}
 use Rattle.ckr_desk_turn.specs.declared.plan.Plan.TheVariants.{Rest, Tell, Work, Pass, Take}
 use Rattle.ckr_desk_turn.specs.declared.reply.How.TheVariants.{Completed}
 use Rattle.ckr_desk_turn.specs.declared.reply.Reply.TheVariants.{Idle, JobEnded, NothingToFail, Started}
-use Rattle.ckr_desk_turn.specs.declared.reply.Turn.{Turn}
+use Rattle.ckr_desk_turn.specs.Turns.{MountedTurn, plan_for}
 use Rattle.ckr_desk_turn.specs.Desk.{DeskModel, jobs_of}
 use Rattle.ckr_desk_turn.specs.Jobs.{TurnJobs, TurnStep, is_asked, is_failed, running_in, waiting_code}
 use Rattle.ckr_desk_turn.specs.Plans.{allocation_ended, between_plan, cancelled_plan, chosen_plan, due_plan, fail_plan, finished_plan, free_plan, is_within, placed_plan, plan_of, run_plan, running_plan, start_plan, suppressed_plan, system_failure, unmarked_plan, waiting_plan}
@@ -189,22 +190,34 @@ pub record WorksAt (desk : DeskModel) (run : ℕ) (due : NextDue) (takes : Bool)
   pub row_at : run_of desk.office.tables run ≡ Some row
   pub works : Works (jobs_of desk) row run due takes
 
-pub works-at : (desk : DeskModel) (turn : Turn) (run : ℕ) (due : NextDue) (takes : Bool) → IsDesk desk → asked_in (plan_of desk.layout (jobs_of desk) turn) ≡ Some (run, due) → takes_in (plan_of desk.layout (jobs_of desk) turn) ≡ takes → WorksAt desk run due takes
-unfolding plan_of
-works-at desk turn run due takes is planned taken =
-    option-cases (run_on_initiator desk.office.tables turn.initiator)
-    (λ free.
-    never desk.layout (jobs_of desk) run due takes (free_plan desk.layout (jobs_of desk) turn.initiator turn.fail) (free-none desk.layout (jobs_of desk) run due takes turn.initiator turn.fail)
-    (subst (λ (o : Option RunRow). AsksSo (option_map_or (run_plan desk.layout (jobs_of desk) turn.fail) o (free_plan desk.layout (jobs_of desk) turn.initiator turn.fail))) free (planned, taken)))
-    (λ row found.
-    let works : Works (jobs_of desk) row run due takes =
-    run-works desk.layout (jobs_of desk) run due takes row turn.fail
-    (subst (λ (o : Option RunRow). AsksSo (option_map_or (run_plan desk.layout (jobs_of desk) turn.fail) o (free_plan desk.layout (jobs_of desk) turn.initiator turn.fail))) found (planned, taken)) in
-    record {
-      row = row;
-      row_at = ap (run_of desk.office.tables) (sym works.numbered) ∙ row_of_found desk.layout desk.office (λ other. is_on turn.initiator other.initiator) row is.kept found;
-      works = works;
-    })
-  where
-    AsksSo : Plan → Type 0
-    AsksSo plan = (asked_in plan ≡ Some (run, due)) × (takes_in plan ≡ takes)
+module _ (desk : DeskModel) (turn : MountedTurn) (run : ℕ) (due : NextDue) (takes : Bool) (is : IsDesk desk) where
+  abbrev AsksSo : Plan → Type 0
+  AsksSo plan = (asked_in plan ≡ Some (run, due)) × (takes_in plan ≡ takes)
+
+  planned-works : AsksSo (plan_of desk.layout (jobs_of desk) turn.turn) → WorksAt desk run due takes
+  unfolding plan_of
+  planned-works asks =
+      option-cases (run_on_initiator desk.office.tables turn.turn.initiator)
+      (λ free.
+      never desk.layout (jobs_of desk) run due takes (free_plan desk.layout (jobs_of desk) turn.turn.initiator turn.turn.fail) (free-none desk.layout (jobs_of desk) run due takes turn.turn.initiator turn.turn.fail)
+      (subst (λ (o : Option RunRow). AsksSo (option_map_or (run_plan desk.layout (jobs_of desk) turn.turn.fail) o (free_plan desk.layout (jobs_of desk) turn.turn.initiator turn.turn.fail))) free asks))
+      (λ row found.
+      let works : Works (jobs_of desk) row run due takes =
+      run-works desk.layout (jobs_of desk) run due takes row turn.turn.fail
+      (subst (λ (o : Option RunRow). AsksSo (option_map_or (run_plan desk.layout (jobs_of desk) turn.turn.fail) o (free_plan desk.layout (jobs_of desk) turn.turn.initiator turn.turn.fail))) found asks) in
+      record {
+        row = row;
+        row_at = ap (run_of desk.office.tables) (sym works.numbered) ∙ row_of_found desk.layout desk.office (λ other. is_on turn.turn.initiator other.initiator) row is.kept found;
+        works = works;
+      })
+
+  -- a turn whose step hasn't its volumes doesn't work
+  asked-works : AsksSo (plan_for desk.layout (jobs_of desk) turn) → WorksAt desk run due takes
+  asked-works =
+      plan_by-cases (λ plan. AsksSo plan → WorksAt desk run due takes) desk.layout desk.office.tables (plan_of desk.layout (jobs_of desk) turn.turn) planned-works
+      (λ step dd cause its asks. absurd (some-not-none _ (sym asks.0)))
+      turn.taking
+      (λ need free asks. absurd (some-not-none _ (sym asks.0))) (λ awaited asks. absurd (some-not-none _ (sym asks.0)))
+
+pub works-at : (desk : DeskModel) (turn : MountedTurn) (run : ℕ) (due : NextDue) (takes : Bool) → IsDesk desk → asked_in (plan_for desk.layout (jobs_of desk) turn) ≡ Some (run, due) → takes_in (plan_for desk.layout (jobs_of desk) turn) ≡ takes → WorksAt desk run due takes
+works-at desk turn run due takes is planned taken = asked-works desk turn run due takes is (planned, taken)

@@ -22,9 +22,9 @@ use Rattle.ckr_steps.specs.Places.{GoesTo, ShowsWithin}
 use Rattle.ckr_steps.specs.Units.{due_of, taken_of}
 use Rattle.ckr_desk_turn.specs.Desk.{DeskModel, TurnDone, done_by, jobs_of, seen, seen_from, unit_done, with_progress, work_of}
 use Rattle.ckr_desk_turn.specs.declared.plan.Plan.{Plan}
-use Rattle.ckr_desk_turn.specs.declared.plan.Plan.TheVariants.{Rest, Tell, Work, Pass, Take, Ask, Wait}
+use Rattle.ckr_desk_turn.specs.declared.plan.Plan.TheVariants.{Rest, Tell}
 use Rattle.ckr_desk_turn.specs.declared.reply.Reply.TheVariants.{Worked as WorkedReply}
-use Rattle.ckr_desk_turn.specs.declared.reply.Turn.{Turn}
+use Rattle.ckr_desk_turn.specs.Turns.{MountedTurn}
 use Rattle.ckr_desk_turn.specs.Inquiries.{decide, is_ask}
 use Rattle.ckr_desk_turn.specs.Jobs.{TurnStep, as_stopped, step_name_of}
 use Rattle.ckr_desk_turn.specs.Units.{StepProgress, UnitEnd, unit_plan, went}
@@ -60,7 +60,7 @@ plain_of tables on = record {
   code = None;
 }
 
-module _ (layout : Layout) (old : JobsView) (before after : List ℕ) (desk : DeskModel) (turn : Turn) (run : ℕ) (on moved : RunningStepView) (worked : Worked) (unit : StandsBehindUnit layout old before after desk turn run on moved worked) where
+module _ (layout : Layout) (old : JobsView) (before after : List ℕ) (desk : DeskModel) (turn : MountedTurn) (run : ℕ) (on moved : RunningStepView) (worked : Worked) (unit : StandsBehindUnit layout old before after desk turn run on moved worked) where
   abbrev p : IsPair desk.layout desk.office before run on desk.running
   p = pair layout old before after desk turn run on moved worked unit
 
@@ -116,7 +116,7 @@ module _ (layout : Layout) (old : JobsView) (before after : List ℕ) (desk : De
 
 -- ---- the step goes on
 
-module _ (layout : Layout) (old : JobsView) (before after : List ℕ) (desk : DeskModel) (turn : Turn) (run : ℕ) (on moved : RunningStepView) (taken : ℕ) (unit : StandsBehindUnit layout old before after desk turn run on moved (Went taken)) where
+module _ (layout : Layout) (old : JobsView) (before after : List ℕ) (desk : DeskModel) (turn : MountedTurn) (run : ℕ) (on moved : RunningStepView) (taken : ℕ) (unit : StandsBehindUnit layout old before after desk turn run on moved (Went taken)) where
   abbrev q : IsPair desk.layout desk.office before run on desk.running
   q = pair layout old before after desk turn run on moved (Went taken) unit
 

@@ -58,7 +58,7 @@ use Rattle.ckr_desk_turn.specs.Desk.{DeskModel, jobs_of, unit_done, with_progres
 use Rattle.ckr_desk_turn.specs.declared.plan.Plan.{Plan}
 use Rattle.ckr_desk_turn.specs.declared.plan.Plan.TheVariants.{Tell}
 use Rattle.ckr_desk_turn.specs.declared.reply.Reply.TheVariants.{Worked as WorkedReply}
-use Rattle.ckr_desk_turn.specs.declared.reply.Turn.{Turn}
+use Rattle.ckr_desk_turn.specs.Turns.{MountedTurn}
 use Rattle.ckr_desk_turn.specs.Jobs.{TurnStep, step_name_of}
 use Rattle.ckr_desk_turn.specs.Units.{UnitEnd, arrived, finished_by, first_rewrite, unit_end, updated_lrecl, went}
 use Rattle.ckr_volumes.specs.declared.layout.Layout.{Layout}
@@ -204,7 +204,7 @@ module _ (before after : List ℕ) (layout : Layout) (start : StepStart) (taken 
       same_Some to.rewritten.content Plain
       (sym (ap (option_map (λ (set : LibrarySet). set.content)) to.stood) ∙ within-content start old.writes to.name ∙ ap (option_map (λ (set : LibrarySet). set.content)) plain.1 ∙ ap (λ (c : Content). Some c) plain.2)
 
-module _ (layout : Layout) (old : JobsView) (before after : List ℕ) (desk : DeskModel) (turn : Turn) (run : ℕ) (on moved : RunningStepView) (place now : ℕ) (bytes : List ℕ) (unit : StandsBehindUnit layout old before after desk turn run on moved (Rewrite place bytes now)) where
+module _ (layout : Layout) (old : JobsView) (before after : List ℕ) (desk : DeskModel) (turn : MountedTurn) (run : ℕ) (on moved : RunningStepView) (place now : ℕ) (bytes : List ℕ) (unit : StandsBehindUnit layout old before after desk turn run on moved (Rewrite place bytes now)) where
   abbrev p : IsPair desk.layout desk.office before run on desk.running
   p = pair layout old before after desk turn run on moved (Rewrite place bytes now) unit
 

@@ -14,8 +14,7 @@ use Rattle.ckr_steps.specs.Units.{is_cancelled, is_checkpointed}
 use Rattle.ckr_desk_turn.specs.Desk.{DeskModel, DeskStep, done_by, jobs_of, progress_of, progress_unless, start_of, unit_done, work_of}
 use Rattle.ckr_desk_turn.specs.declared.plan.Plan.TheVariants.{Rest, Work}
 use Rattle.ckr_desk_turn.specs.declared.reply.Reply.TheVariants.{Idle}
-use Rattle.ckr_desk_turn.specs.declared.reply.Turn.{Turn}
-use Rattle.ckr_desk_turn.specs.Plans.{plan_of}
+use Rattle.ckr_desk_turn.specs.Turns.{MountedTurn, plan_for}
 use Rattle.ckr_desk_turn.specs.Units.{StepProgress, UnitEnd, unit_end}
 use Rattle.ckr_volumes.specs.declared.layout.Layout.{Layout}
 use Rattle.ckr_desk_refines.proofs.Units.DueUnits.{IsDue, due-unclosed, is-due}
@@ -27,8 +26,8 @@ abbrev progress_so : ℕ → ℕ → Bool → Bool → Bool → StepProgress
 progress_so taken writes checkpointed cancelled closed =
     record { taken = taken; writes = writes; checkpointed = checkpointed; cancelled = cancelled; closed = closed }
 
-module _ (layout : Layout) (jobs : JobsView) (image : List ℕ) (desk : DeskModel) (turn : Turn) (run : ℕ) (on : RunningStepView)
-    (stands : StandsForDesk layout jobs image desk) (planned : plan_of desk.layout (jobs_of desk) turn ≡ Work run) (found : find (is_of_run run) jobs.running ≡ Some on) where
+module _ (layout : Layout) (jobs : JobsView) (image : List ℕ) (desk : DeskModel) (turn : MountedTurn) (run : ℕ) (on : RunningStepView)
+    (stands : StandsForDesk layout jobs image desk) (planned : plan_for desk.layout (jobs_of desk) turn ≡ Work run) (found : find (is_of_run run) jobs.running ≡ Some on) where
   -- the running step of the desk
   pub pair-found : IsPair desk.layout desk.office image run on desk.running
   pair-found = pair-of desk.layout desk.office image run on jobs.running desk.running stands.running stands.is_desk.going found

@@ -11,27 +11,26 @@ use Rattle.ckr_desk_refines.specs.Standing.{StandsForStep, StandsForDesk}
 use Rattle.ckr_steps.specs.Units.{due_of}
 use Rattle.ckr_desk_turn.specs.Desk.{DeskModel, DeskStep, jobs_of}
 use Rattle.ckr_desk_turn.specs.declared.plan.Plan.TheVariants.{Work}
-use Rattle.ckr_desk_turn.specs.declared.reply.Turn.{Turn}
-use Rattle.ckr_desk_turn.specs.Plans.{plan_of}
+use Rattle.ckr_desk_turn.specs.Turns.{MountedTurn, plan_for}
 use Rattle.ckr_volumes.specs.declared.layout.Layout.{Layout}
 use Rattle.ckr_desk_refines.proofs.Units.DueUnits.{IsDue, due-there, is-due, its-number, its-own, its-row}
 use Rattle.ckr_desk_refines.proofs.Units.Plans.{asked_in}
 use Rattle.ckr_desk_refines.proofs.Units.StepLists.{IsPair, pair-of, seen-of}
 
-module _ (layout : Layout) (jobs : JobsView) (image : List ℕ) (desk : DeskModel) (turn : Turn) (run : ℕ) where
-  pub due-so : (on : RunningStepView) → StandsForDesk layout jobs image desk → plan_of desk.layout (jobs_of desk) turn ≡ Work run → find (is_of_run run) jobs.running ≡ Some on → due_of on.step.parm on.step.state ≡ OneUnit
+module _ (layout : Layout) (jobs : JobsView) (image : List ℕ) (desk : DeskModel) (turn : MountedTurn) (run : ℕ) where
+  pub due-so : (on : RunningStepView) → StandsForDesk layout jobs image desk → plan_for desk.layout (jobs_of desk) turn ≡ Work run → find (is_of_run run) jobs.running ≡ Some on → due_of on.step.parm on.step.state ≡ OneUnit
   due-so on stands planned found =
       let due : IsDue desk run OneUnit = is-due desk turn run OneUnit stands.is_desk (ap asked_in planned) in
       let pair : IsPair desk.layout desk.office image run on desk.running = pair-of desk.layout desk.office image run on jobs.running desk.running stands.running stands.is_desk.going found in
       let same : pair.step ≡ due.step = same_Some pair.step due.step (sym pair.at ∙ due.at) in
       due-there desk stands.is_desk run OneUnit due image on (subst (λ (step : DeskStep). StandsForStep desk.layout desk.office image on step) same pair.stands)
 
-  pub there-so : StandsForDesk layout jobs image desk → plan_of desk.layout (jobs_of desk) turn ≡ Work run → (on : RunningStepView) × (find (is_of_run run) jobs.running ≡ Some on)
+  pub there-so : StandsForDesk layout jobs image desk → plan_for desk.layout (jobs_of desk) turn ≡ Work run → (on : RunningStepView) × (find (is_of_run run) jobs.running ≡ Some on)
   there-so stands planned =
       let due : IsDue desk run OneUnit = is-due desk turn run OneUnit stands.is_desk (ap asked_in planned) in
       seen-of desk.layout desk.office image run due.step jobs.running desk.running stands.running due.at
 
-  pub within-so : StandsForDesk layout jobs image desk → plan_of desk.layout (jobs_of desk) turn ≡ Work run
+  pub within-so : StandsForDesk layout jobs image desk → plan_for desk.layout (jobs_of desk) turn ≡ Work run
       → (row : RunRow) × (own : OwnedStep) × (run_of desk.office.tables run ≡ Some row) × (step_of_run row (step_in (place_of row)) ≡ Some own) × (row.number ≡ run)
   within-so stands planned =
       let due : IsDue desk run OneUnit = is-due desk turn run OneUnit stands.is_desk (ap asked_in planned) in

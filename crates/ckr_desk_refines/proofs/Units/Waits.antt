@@ -18,7 +18,7 @@ use Rattle.ckr_desk_turn.specs.Inquiries.{decide}
 use Rattle.ckr_desk_turn.specs.Invariant.{IsDesk}
 use Rattle.ckr_desk_turn.specs.Units.{StepProgress}
 use Rattle.ckr_desk_turn.specs.declared.plan.Plan.TheVariants.{Wait}
-use Rattle.ckr_desk_turn.specs.declared.reply.Turn.{Turn}
+use Rattle.ckr_desk_turn.specs.Turns.{MountedTurn}
 use Rattle.ckr_desk_turn.proofs.Waits.{stopped}
 use Rattle.ckr_desk_refines.specs.Moves.{HasWaited}
 use Rattle.ckr_desk_refines.specs.Standing.{AllStand, PointsStand, StandsForDesk, StandsForStep}
@@ -29,7 +29,7 @@ use Rattle.ckr_desk_refines.proofs.Units.Desk.{committed-so, did-so, each-stays,
 use Rattle.ckr_desk_refines.proofs.Units.OwnStep.{own-checked, own-named, own-sets}
 use Rattle.ckr_desk_refines.proofs.Units.StepLists.{IsPair, differ-put, others-stay}
 
-module _ (layout : Layout) (old : JobsView) (before after : List ℕ) (desk : DeskModel) (turn : Turn) (run : ℕ) (on moved : RunningStepView) (code : Code) (answer : Answer) (unit : StandsBehindUnit layout old before after desk turn run on moved (Abend code)) where
+module _ (layout : Layout) (old : JobsView) (before after : List ℕ) (desk : DeskModel) (turn : MountedTurn) (run : ℕ) (on moved : RunningStepView) (code : Code) (answer : Answer) (unit : StandsBehindUnit layout old before after desk turn run on moved (Abend code)) where
   abbrev p : IsPair desk.layout desk.office before run on desk.running
   p = pair layout old before after desk turn run on moved (Abend code) unit
 

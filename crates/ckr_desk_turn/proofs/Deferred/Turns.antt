@@ -30,10 +30,10 @@ use Rattle.ckr_desk_turn.specs.declared.plan.Plan.TheVariants.{Rest}
 use Rattle.ckr_desk_turn.specs.declared.reply.Reply.TheVariants.{DeniedRestart, Idle}
 use Rattle.ckr_base.specs.declared.code.Code.{Code}
 use Rattle.ckr_desk_turn.specs.declared.plan.Plan.{Plan}
-use Rattle.ckr_desk_turn.specs.declared.reply.Turn.{Turn}
 use Rattle.ckr_desk_turn.specs.Codes.{code_plan, reached_by}
+use Rattle.ckr_desk_turn.specs.Mounts.{plan_by}
 use Rattle.ckr_desk_turn.specs.Plans.{chosen_plan, free_plan, plan_of, run_plan}
-use Rattle.ckr_desk_turn.specs.Turns.{carried_out, turn_of}
+use Rattle.ckr_desk_turn.specs.Turns.{MountedTurn, carried_out, turn_of}
 use Rattle.ckr_desk_turn.specs.Deferred.{queued_plan, continued_at_entry, continued_by, deferred_plan, deferred_verdict}
 use Rattle.ckr_desk_turn.specs.Desk.{DeskModel, DeskStep, TurnDone, at_entry, behind, done_by, jobs_of, progress_of, progress_unless, without_run}
 use Rattle.ckr_desk_turn.specs.Invariant.{IsDesk, IsGoing}
@@ -44,6 +44,7 @@ use Rattle.ckr_desk_turn.specs.Select.{may_select}
 use Rattle.ckr_desk_turn.proofs.Deferred.Desks.{denied-keeps, entry-goes, entry-going, entry-stands, its, running-from, start-goes, start-stands}
 use Rattle.ckr_desk_turn.proofs.Deferred.Rules.{denial-named, denial-rule, denial-stale}
 use Rattle.ckr_desk_turn.proofs.Deferred.Permissions.{IsEntryPermitted, IsStartPermitted, entry-permitted, start-permitted}
+use Rattle.ckr_desk_turn.proofs.Mounts.{continued-wants, idle-stays}
 use Rattle.ckr_desk_turn.proofs.NextEvents.BetweenSteps.{free-there, next_waits, row_of_found, state_found}
 use Rattle.ckr_desk_turn.proofs.Opening.{has-runs}
 use Rattle.ckr_desk_turn.proofs.OtherRuns.{state-code}
@@ -180,48 +181,51 @@ deferred-keeps answer desk is initiator row restart judges =
 
 -- ---- what the turn comes to
 
-module _ (desk : DeskModel) (is : IsDesk desk) (turn : Turn) (row : RunRow) (restart : Restart) (verdict : Verdict) (judged : IsJudgedNext desk turn.initiator row restart verdict) (unforced : turn.fail ≡ None) where
+module _ (desk : DeskModel) (is : IsDesk desk) (one : MountedTurn) (row : RunRow) (restart : Restart) (verdict : Verdict) (judged : IsJudgedNext desk one.turn.initiator row restart verdict) (unforced : one.turn.fail ≡ None) where
   uncoded : row.code ≡ None
   uncoded =
       is_none-true row.code
       (ap (λ s. code_while s row.code) (sym judged.queued) ∙ state-code row (state_found desk (λ other. may_select desk.office.tables other.state other) row is judged.next))
 
-  planned : plan_of desk.layout (jobs_of desk) turn ≡ continued_by verdict desk.office.tables turn.initiator row (wanted_of row desk.office.tables restart)
+  planned : plan_of desk.layout (jobs_of desk) one.turn ≡ continued_by verdict desk.office.tables one.turn.initiator row (wanted_of row desk.office.tables restart)
   unfolding plan_of
   planned =
-      ap (λ (o : Option RunRow). option_map_or (run_plan desk.layout (jobs_of desk) turn.fail) o (free_plan desk.layout (jobs_of desk) turn.initiator turn.fail)) judged.free
-      ∙ ap (free_plan desk.layout (jobs_of desk) turn.initiator) unforced
-      ∙ ap (λ (o : Option RunRow). option_map_or (chosen_plan desk.layout (jobs_of desk) turn.initiator) o (Rest Idle)) judged.next
+      ap (λ (o : Option RunRow). option_map_or (run_plan desk.layout (jobs_of desk) one.turn.fail) o (free_plan desk.layout (jobs_of desk) one.turn.initiator one.turn.fail)) judged.free
+      ∙ ap (free_plan desk.layout (jobs_of desk) one.turn.initiator) unforced
+      ∙ ap (λ (o : Option RunRow). option_map_or (chosen_plan desk.layout (jobs_of desk) one.turn.initiator) o (Rest Idle)) judged.next
       ∙ ap (λ (o : Option Code). elim o as (λ _. Plan) [
-        | None ↦ queued_plan desk.layout desk.office.tables turn.initiator row row.deck.restart
-        | Some code ↦ code_plan desk.layout desk.office.tables row turn.initiator false code (reached_by (jobs_of desk) row)
+        | None ↦ queued_plan desk.layout desk.office.tables one.turn.initiator row row.deck.restart
+        | Some code ↦ code_plan desk.layout desk.office.tables row one.turn.initiator false code (reached_by (jobs_of desk) row)
       ]) uncoded
-      ∙ ap (queued_plan desk.layout desk.office.tables turn.initiator row) judged.has
-      ∙ ap (λ verdict. continued_by verdict desk.office.tables turn.initiator row (wanted_of row desk.office.tables restart)) judged.judged
+      ∙ ap (queued_plan desk.layout desk.office.tables one.turn.initiator row) judged.has
+      ∙ ap (λ verdict. continued_by verdict desk.office.tables one.turn.initiator row (wanted_of row desk.office.tables restart)) judged.judged
 
   -- nothing rests on the operator
-  pub turn-judged : (answer : Answer) → turn_of desk turn answer ≡ done_by (continued_by verdict desk.office.tables turn.initiator row (wanted_of row desk.office.tables restart)) desk
+  pub turn-judged : (answer : Answer) → turn_of desk one answer ≡ done_by (continued_by verdict desk.office.tables one.turn.initiator row (wanted_of row desk.office.tables restart)) desk
   unfolding turn_of
-  turn-judged answer = ap (λ plan. carried_out answer plan desk) planned ∙ by verdict
+  turn-judged answer =
+      ap (λ plan. carried_out answer (plan_by desk.layout desk.office.tables one.taking plan) desk) planned
+      ∙ ap (λ plan. carried_out answer plan desk) (idle-stays desk.layout desk.office.tables one.taking _ (continued-wants desk.office.tables one.turn.initiator row (wanted_of row desk.office.tables restart) verdict))
+      ∙ by verdict
     where
-      at-entry : (entry : Option KeptEntry) → carried_out answer (option_map_or (continued_at_entry turn.initiator row (wanted_of row desk.office.tables restart)) entry (Rest Idle)) desk ≡ done_by (option_map_or (continued_at_entry turn.initiator row (wanted_of row desk.office.tables restart)) entry (Rest Idle)) desk
+      at-entry : (entry : Option KeptEntry) → carried_out answer (option_map_or (continued_at_entry one.turn.initiator row (wanted_of row desk.office.tables restart)) entry (Rest Idle)) desk ≡ done_by (option_map_or (continued_at_entry one.turn.initiator row (wanted_of row desk.office.tables restart)) entry (Rest Idle)) desk
       at-entry None = refl
       at-entry (Some entry) = refl
 
-      by : (verdict : Verdict) → carried_out answer (continued_by verdict desk.office.tables turn.initiator row (wanted_of row desk.office.tables restart)) desk ≡ done_by (continued_by verdict desk.office.tables turn.initiator row (wanted_of row desk.office.tables restart)) desk
+      by : (verdict : Verdict) → carried_out answer (continued_by verdict desk.office.tables one.turn.initiator row (wanted_of row desk.office.tables restart)) desk ≡ done_by (continued_by verdict desk.office.tables one.turn.initiator row (wanted_of row desk.office.tables restart)) desk
       by (Denied rule) = refl
       by Step = refl
       by Checkpoint = at-entry (wanted_of row desk.office.tables restart).entry
 
 -- ---- what a denial tells
 
-module _ (desk : DeskModel) (is : IsDesk desk) (turn : Turn) (row : RunRow) (restart : Restart) (rule : Rule) (judged : IsJudgedNext desk turn.initiator row restart (Denied rule)) (unforced : turn.fail ≡ None) where
+module _ (desk : DeskModel) (is : IsDesk desk) (one : MountedTurn) (row : RunRow) (restart : Restart) (rule : Rule) (judged : IsJudgedNext desk one.turn.initiator row restart (Denied rule)) (unforced : one.turn.fail ≡ None) where
   abbrev denial : DenialOfRestart
   denial = denial_of row (wanted_of row desk.office.tables restart) desk.office.tables rule
 
-  pub denied-told : (answer : Answer) → (turn_of desk turn answer).event ≡ Some (DeniedEvent row.number (rule_number rule) denial.name)
+  pub denied-told : (answer : Answer) → (turn_of desk one answer).event ≡ Some (DeniedEvent row.number (rule_number rule) denial.name)
   denied-told answer =
-      ap (λ (done : TurnDone). done.event) (turn-judged desk is turn row restart (Denied rule) judged unforced answer)
+      ap (λ (done : TurnDone). done.event) (turn-judged desk is one row restart (Denied rule) judged unforced answer)
       ∙ ap (λ (rule : Rule). Some (DeniedEvent row.number (rule_number rule) denial.name)) (denial-rule (serials desk.layout) row (wanted_of row desk.office.tables restart) desk.office.tables rule judged.judged)
 
 -- a rule on data sets is told of one that isn't fresh

@@ -14,6 +14,7 @@ use Rattle.ckr_points.specs.Office.{no_office}
 use Rattle.ckr_points.specs.Rows.{TableSet}
 use Rattle.ckr_points.specs.Soundness.{may_come}
 use Rattle.ckr_desk_turn.specs.declared.reply.Reply.{Reply}
+use Rattle.ckr_desk_turn.specs.declared.taking.Taking.TheVariants.{Taken}
 use Rattle.ckr_desk_turn.specs.Desk.{DeskModel, TurnDone, opened, submitted}
 use Rattle.ckr_desk_turn.specs.Turns.{AnsweredTurn, desk_after, replies_of, turn_of}
 
@@ -37,15 +38,15 @@ abbrev pub with_deck : Option Job → DeskModel → DeskModel
 with_deck None state = state
 with_deck (Some deck) state = submitted [] deck state
 
--- a turn in which the operator says yes if he is asked, or something else
+-- a turn whose step has its volumes, and in which the operator says yes if he is asked, or something else
 abbrev pub turn_by : ℕ → AnsweredTurn
-turn_by initiator = record { turn = record { initiator = initiator; fail = None }; answer = Yes }
+turn_by initiator = record { turn = record { turn = record { initiator = initiator; fail = None }; taking = Taken }; answer = Yes }
 
 abbrev pub turns_by : ℕ → ℕ → List AnsweredTurn
 turns_by initiator count = replicate count (turn_by initiator)
 
 abbrev pub failing : Code → AnsweredTurn
-failing code = record { turn = record { initiator = 1; fail = Some code }; answer = Yes }
+failing code = record { turn = record { turn = record { initiator = 1; fail = Some code }; taking = Taken }; answer = Yes }
 
 abbrev pub with_answer : Answer → AnsweredTurn → AnsweredTurn
 with_answer answer one = record one { answer = answer }

@@ -43,13 +43,14 @@ use Rattle.ckr_desk_turn.specs.Desk.{DeskModel, jobs_of}
 use Rattle.ckr_desk_turn.specs.Plans.{allocation_ended, between_plan, chosen_plan, fail_plan, free_plan, placed_plan, plan_of, run_plan, start_plan, system_failure, unmarked_plan}
 use Rattle.ckr_desk_turn.specs.Jobs.{TurnStep, running_in, waiting_code}
 use Rattle.ckr_desk_turn.specs.Invariant.{IsDesk, Keeps, is_accounted, is_off}
-use Rattle.ckr_desk_turn.specs.Turns.{turn_of}
+use Rattle.ckr_desk_turn.specs.Turns.{MountedTurn, turn_of}
 use Rattle.ckr_desk_turn.proofs.NextEvents.BetweenSteps.{completed_comes, free-there, next_cases, refused_comes, row_of_found, selected_comes, state_found, state_on}
 use Rattle.ckr_desk_turn.proofs.RunEnd.{completed-kept, refused-inside, refused-kept}
 use Rattle.ckr_desk_turn.proofs.Select.{code_while, selected-keeps}
 use Rattle.ckr_desk_turn.proofs.Inquiries.{coded-keeps}
 use Rattle.ckr_desk_turn.specs.Deferred.{queued_plan}
 use Rattle.ckr_desk_turn.proofs.Deferred.Turns.{deferred-keeps}
+use Rattle.ckr_desk_turn.proofs.Mounts.{plan_by-keeps, turn-wanted}
 use Rattle.ckr_desk_turn.proofs.OtherRuns.{row-stepped, state-code}
 use Rattle.ckr_desk_turn.proofs.Restart.Events.{MayGoOn, off-goes}
 use Rattle.ckr_desk_turn.proofs.RunningSteps.{FoundStep, found-step, going-within}
@@ -153,7 +154,7 @@ module _ (answer : Answer) (desk : DeskModel) (is : IsDesk desk) (i : ℕ) (row 
         | Err refusal ↦ allocation_ended row owned refusal.dd refusal.cause
         | Ok items ↦ Tell (Started row.number owned.step.name) (StartedEvent row.number (step_in (place_of row)) (record { items = items }))
       ])) (sym failed)
-      (record { comes = record { may = may; carried = refl }; kept = refused-kept desk is row at on refusal.dd numbers.0 numbers.1 numbers.2 out may })
+      (record { comes = record { may = may; carried = refl }; kept = refused-kept desk is row at on owned refusal.dd numbers.0 numbers.1 numbers.2 there may })
     where
       refused-all : (all : Result Allocation Refusal) → items_in all ≡ Err refusal → all ≡ Err refusal
       refused-all (Ok done) e = cc
@@ -236,9 +237,16 @@ run_plan-kept answer desk is i row found fail =
     (λ number committed start stands. step-keeps desk is row number committed start stands answer fail))
     (λ out. between-keeps answer desk is i row found out fail)
 
-pub turn-keeps : (desk : DeskModel) (turn : Turn) (answer : Answer) → IsDesk desk → 1 ≤ turn.initiator → turn.initiator ≤ desk.layout.initiators → Keeps desk (turn_of desk turn answer)
-unfolding turn_of plan_of
-turn-keeps desk turn answer is above below =
+-- what a turn of the tables and the running steps comes to
+planned-keeps : (answer : Answer) (desk : DeskModel) (turn : Turn) → IsDesk desk → 1 ≤ turn.initiator → turn.initiator ≤ desk.layout.initiators → PlanKeeps answer desk (plan_of desk.layout (jobs_of desk) turn)
+unfolding plan_of
+planned-keeps answer desk turn is above below =
     option-cases (run_on_initiator desk.office.tables turn.initiator)
     (λ free. subst (λ (o : Option RunRow). PlanKeeps answer desk (option_map_or (run_plan desk.layout (jobs_of desk) turn.fail) o (free_plan desk.layout (jobs_of desk) turn.initiator turn.fail))) (sym free) (free_plan-keeps answer desk is turn.initiator above below free turn.fail))
     (λ row found. subst (λ (o : Option RunRow). PlanKeeps answer desk (option_map_or (run_plan desk.layout (jobs_of desk) turn.fail) o (free_plan desk.layout (jobs_of desk) turn.initiator turn.fail))) (sym found) (run_plan-kept answer desk is turn.initiator row found turn.fail))
+
+-- whatever has become of the volumes that its step wants
+pub turn-keeps : (desk : DeskModel) (one : MountedTurn) (answer : Answer) → IsDesk desk → 1 ≤ one.turn.initiator → one.turn.initiator ≤ desk.layout.initiators → Keeps desk (turn_of desk one answer)
+unfolding turn_of
+turn-keeps desk one answer is above below =
+    plan_by-keeps desk is answer one.taking (plan_of desk.layout (jobs_of desk) one.turn) (turn-wanted desk is one.turn) (planned-keeps answer desk one.turn is above below)

@@ -1,6 +1,6 @@
 -- What a turn comes to rests on the operator's answer where he was asked, and on nothing of his where he wasn't.
-use Rattle.std.proofs.Common.{◌≡◌, ℕ, List, Bool, true, false, if◌then◌else◌, not, ◌&&◌, ◌||◌, ◌∷◌, [], refl, ap, sym, ◌∙◌, Option, Some, None, Result, Ok, Err}
-use Rattle.std.specs.Prelude.{◌==◌, nat_le}
+use Rattle.std.proofs.Common.{◌≡◌, ℕ, List, Bool, true, false, inl, inr, if◌then◌else◌, not, ◌&&◌, ◌||◌, ◌∷◌, [], refl, ap, sym, ◌∙◌, Option, Some, None, Result, Ok, Err}
+use Rattle.std.specs.Prelude.{◌==◌, ◌⊎◌, nat_le}
 use Rattle.std.specs.Option.{is_some, option_map_or}
 use Rattle.std.proofs.lemmas.Bool.{false≢true}
 use Rattle.std.proofs.lemmas.Option.{same_Some}
@@ -48,6 +48,7 @@ use Rattle.ckr_desk_turn.specs.declared.reply.Reply.{Reply}
 use Rattle.ckr_desk_turn.specs.declared.reply.Reply.TheVariants.{AwaitingReply, Idle, JobEnded, NothingToFail, Started}
 use Rattle.ckr_desk_turn.specs.declared.reply.How.TheVariants.{Completed}
 use Rattle.ckr_desk_turn.specs.declared.reply.Turn.{Turn}
+use Rattle.ckr_desk_turn.specs.declared.taking.Taking.TheVariants.{Awaited}
 use Rattle.ckr_desk_turn.specs.Allocation.{allocation_of}
 use Rattle.ckr_desk_turn.specs.Checkpoints.{checkpoint_fits, checkpoint_try, checkpoint_turn, checkpoint_unless}
 use Rattle.ckr_desk_turn.specs.Codes.{CodePlaceModel, asked_at_entry, code_plan, ended_by, initiator_of, judged_plan, reached_by, verdict_for}
@@ -58,8 +59,9 @@ use Rattle.ckr_desk_turn.specs.Jobs.{TurnJobs, TurnStep, effect_entry, is_failed
 use Rattle.ckr_desk_turn.specs.Plans.{allocation_ended, between_plan, checkpoint_plan, chosen_plan, due_plan, fail_plan, free_plan, is_within, placed_plan, plan_of, run_plan, running_plan, start_plan, suppressed_plan, system_failure, unmarked_plan}
 use Rattle.ckr_desk_turn.specs.Select.{is_on, may_select, next_run, run_on_initiator}
 use Rattle.ckr_desk_turn.specs.Taken.{served_by, taken_of}
-use Rattle.ckr_desk_turn.specs.Turns.{carried_out, turn_of}
+use Rattle.ckr_desk_turn.specs.Turns.{MountedTurn, carried_out, plan_for, turn_of}
 use Rattle.ckr_desk_turn.specs.Units.{StepProgress, UnitEnd, UnitOutcome, abended, unit_end, unit_plan, went}
+use Rattle.ckr_desk_turn.proofs.Mounts.{plan_by-cases}
 use Rattle.ckr_desk_turn.proofs.OtherRuns.{state-code}
 use Rattle.ckr_desk_turn.proofs.NextEvents.BetweenSteps.{next_cases, row_of_found, state_found, state_on}
 use Rattle.ckr_desk_turn.proofs.Select.{code_while}
@@ -105,6 +107,11 @@ record IsAsked (done : Answer → TurnDone) : Type 0 where
   pub inquiry : Inquiry
   pub moved : DeskModel
   pub so : (answer : Answer) → done answer ≡ answered answer (Ask inquiry) moved
+
+-- one in which he hasn't answered yet whether a volume may be mounted
+record IsAwaited (desk : DeskModel) (one : MountedTurn) : Type 0 where
+  pub awaited : one.taking ≡ Awaited
+  pub waits : (answer : Answer) → turn_of desk one answer ≡ done_by (Rest AwaitingReply) desk
 
 -- ---- the entry of a checkpoint in effect
 
@@ -406,9 +413,21 @@ module _ (also : Bool) where
         let going = found-going desk.office run progress desk.running (is sure).going known in
         ap is_holder (ap (λ (r : RunRow). r.state) (same_Some row going.row (sym at ∙ going.row_at)) ∙ going.on))
 
-    turn-rests : {A : Type 0} (turn : Turn) → (IsUnasked also (λ answer. turn_of desk turn answer) → A) → (IsAsked (λ answer. turn_of desk turn answer) → A) → A
+    -- whatever has become of the volumes that the step wants: nothing rests on him, or its turn waits for his answer to a mount
+    waits-or-apart : (one : MountedTurn) → (is_his_plan also (plan_for desk.layout (jobs_of desk) one) ≡ false) ⊎ ((one.taking ≡ Awaited) × (plan_for desk.layout (jobs_of desk) one ≡ Rest AwaitingReply))
+    waits-or-apart one =
+        plan_by-cases (λ plan. (is_his_plan also plan ≡ false) ⊎ ((one.taking ≡ Awaited) × (plan ≡ Rest AwaitingReply))) desk.layout desk.office.tables (plan_of desk.layout (jobs_of desk) one.turn)
+        (inl (plan-apart desk.layout (jobs_of desk) one.turn (on-has one.turn.initiator) next-has))
+        (λ step dd cause its. inl refl) one.taking
+        (λ need free. inl refl) (λ awaited. inr (awaited, refl))
+
+    turn-rests : {A : Type 0} (one : MountedTurn) → (IsUnasked also (λ answer. turn_of desk one answer) → A) → (IsAsked (λ answer. turn_of desk one answer) → A) → (IsAwaited desk one → A) → A
     unfolding turn_of
-    turn-rests turn = carried-rests desk (plan_of desk.layout (jobs_of desk) turn) (plan-apart desk.layout (jobs_of desk) turn (on-has turn.initiator) next-has) going-has
+    turn-rests {A = A} one unasked asked awaits = by (waits-or-apart one)
+      where
+        by : (is_his_plan also (plan_for desk.layout (jobs_of desk) one) ≡ false) ⊎ ((one.taking ≡ Awaited) × (plan_for desk.layout (jobs_of desk) one ≡ Rest AwaitingReply)) → A
+        by (inl apart) = carried-rests desk (plan_for desk.layout (jobs_of desk) one) apart going-has unasked asked
+        by (inr both) = awaits (record { awaited = both.0; waits = λ answer. ap (λ plan. carried_out answer plan desk) both.1 })
 
 -- ---- what he was asked
 
@@ -447,18 +466,19 @@ asked-waits Silent inquiry moved reply = refl
 
 -- ---- the laws
 
-module _ (desk : DeskModel) (turn : Turn) (answer : Answer) where
+module _ (desk : DeskModel) (one : MountedTurn) (answer : Answer) where
   abbrev its_turn : TurnDone
-  its_turn = turn_of desk turn answer
+  its_turn = turn_of desk one answer
 
   -- an event that he alone brings about comes only where he was asked
-  told-asked : (also : Bool) → (also ≡ true → IsDesk desk) → (event : Event) → is_his also event ≡ true → its_turn.event ≡ Some event → IsAsked (λ answer. turn_of desk turn answer)
+  told-asked : (also : Bool) → (also ≡ true → IsDesk desk) → (event : Event) → is_his also event ≡ true → its_turn.event ≡ Some event → IsAsked (λ answer. turn_of desk one answer)
   told-asked also is event his told =
-      turn-rests also desk is turn
+      turn-rests also desk is one
       (λ unasked. absurd (false≢true (sym (unasked.apart answer).event ∙ ap (is_his_told also) told ∙ his)))
       (λ asked. asked)
+      (λ awaits. absurd (some-not-none event (sym told ∙ ap (λ (done : TurnDone). done.event) (awaits.waits answer))))
 
-  was-asked : (asked : IsAsked (λ answer. turn_of desk turn answer)) → its_turn.asked ≡ true
+  was-asked : (asked : IsAsked (λ answer. turn_of desk one answer)) → its_turn.asked ≡ true
   was-asked asked = ap (λ (done : TurnDone). done.asked) (asked.so answer)
 
   no_desk : false ≡ true → IsDesk desk
@@ -479,14 +499,16 @@ module _ (desk : DeskModel) (turn : Turn) (answer : Answer) where
       let asked = told-asked true (λ sure. is) (EndedEvent job (CodedEnding code (rule_number A6) writes lengths)) refl told in
       (was-asked asked, asked-ended answer asked.inquiry asked.moved job (rule_number A6) writes code lengths (ap (λ (done : TurnDone). done.event) (sym (asked.so answer)) ∙ told))
 
-  pub waits-rests : its_turn.reply ≡ AwaitingReply → (its_turn.asked ≡ true) × (answer ≡ Silent)
+  pub waits-rests : its_turn.reply ≡ AwaitingReply → (one.taking ≡ Awaited) ⊎ ((its_turn.asked ≡ true) × (answer ≡ Silent))
   waits-rests replied =
-      turn-rests false desk no_desk turn
+      turn-rests false desk no_desk one
       (λ unasked. absurd (false≢true (sym (unasked.apart answer).reply ∙ ap is_awaiting replied)))
-      (λ asked. (was-asked asked, asked-waits answer asked.inquiry asked.moved (ap (λ (done : TurnDone). done.reply) (sym (asked.so answer)) ∙ replied)))
+      (λ asked. inr (was-asked asked, asked-waits answer asked.inquiry asked.moved (ap (λ (done : TurnDone). done.reply) (sym (asked.so answer)) ∙ replied)))
+      (λ awaits. inl awaits.awaited)
 
-  pub unasked-same : (other : Answer) → its_turn.asked ≡ false → turn_of desk turn other ≡ its_turn
+  pub unasked-same : (other : Answer) → its_turn.asked ≡ false → turn_of desk one other ≡ its_turn
   unasked-same other none =
-      turn-rests false desk no_desk turn
+      turn-rests false desk no_desk one
       (λ unasked. unasked.same answer other)
       (λ asked. absurd (false≢true (sym none ∙ was-asked asked)))
+      (λ awaits. awaits.waits other ∙ sym (awaits.waits answer))

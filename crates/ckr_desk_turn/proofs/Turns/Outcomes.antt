@@ -34,15 +34,13 @@ use Rattle.ckr_volumes.specs.declared.layout.Layout.{Layout}
 use Rattle.ckr_desk_turn.specs.declared.plan.Plan.{Plan}
 use Rattle.ckr_desk_turn.specs.declared.plan.Plan.TheVariants.{Rest, Tell, Work, Pass, Take, Ask, Wait}
 use Rattle.ckr_desk_turn.specs.declared.reply.Reply.TheVariants.{Idle}
-use Rattle.ckr_desk_turn.specs.declared.reply.Turn.{Turn}
 use Rattle.ckr_desk_turn.specs.Checkpoints.{checkpoint_turn}
 use Rattle.ckr_desk_turn.specs.Desk.{DeskModel, TurnDone, done_by, jobs_of, progress_of, start_of, unit_done, with_progress, work_of}
 use Rattle.ckr_desk_turn.specs.Inquiries.{decided}
 use Rattle.ckr_desk_turn.specs.Invariant.{IsDesk, Keeps}
 use Rattle.ckr_desk_turn.specs.NextEvents.{EventComes}
-use Rattle.ckr_desk_turn.specs.Plans.{plan_of}
 use Rattle.ckr_desk_turn.specs.Taken.{behind_entry, served_by, taken_of}
-use Rattle.ckr_desk_turn.specs.Turns.{AnsweredTurn, BeginsOn, IsAnsweredTurnOf, carried_out, desk_after, turn_of}
+use Rattle.ckr_desk_turn.specs.Turns.{AnsweredTurn, BeginsOn, IsAnsweredTurnOf, MountedTurn, carried_out, desk_after, plan_for, turn_of}
 use Rattle.ckr_desk_turn.specs.Units.{StepProgress, UnitEnd, unit_end}
 use Rattle.ckr_desk_turn.proofs.Opening.{has-runs}
 use Rattle.ckr_desk_turn.proofs.Readiness.{desk-kept}
@@ -110,9 +108,9 @@ plan-by answer (Take job) desk = taken-by job desk
 plan-by answer (Ask inquiry) desk = done-by (decided answer inquiry) desk
 plan-by answer (Wait job code) desk = refl
 
-pub turn-by : (desk : DeskModel) (turn : Turn) (answer : Answer) → IsBy desk (turn_of desk turn answer)
+pub turn-by : (desk : DeskModel) (one : MountedTurn) (answer : Answer) → IsBy desk (turn_of desk one answer)
 unfolding turn_of
-turn-by desk turn answer = plan-by answer (plan_of desk.layout (jobs_of desk) turn) desk
+turn-by desk one answer = plan-by answer (plan_for desk.layout (jobs_of desk) one) desk
 
 -- ---- the leg of a run stays from its selection on
 

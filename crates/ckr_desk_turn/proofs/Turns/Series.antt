@@ -10,15 +10,13 @@ use Rattle.ckr_points_invariant.specs.Invariant.{IsKept}
 use Rattle.ckr_desk_turn.specs.declared.plan.Plan.{Plan}
 use Rattle.ckr_desk_turn.specs.declared.plan.Plan.TheVariants.{Rest, Tell, Work, Pass, Take, Ask, Wait}
 use Rattle.ckr_desk_turn.specs.declared.reply.Reply.TheVariants.{Idle}
-use Rattle.ckr_desk_turn.specs.declared.reply.Turn.{Turn}
 use Rattle.ckr_desk_turn.specs.Checkpoints.{checkpoint_turn}
 use Rattle.ckr_desk_turn.specs.Desk.{DeskModel, done_by, jobs_of, progress_of, start_of, unit_done, with_progress, work_of}
 use Rattle.ckr_desk_turn.specs.Inquiries.{decided}
-use Rattle.ckr_desk_turn.specs.Plans.{plan_of}
 use Rattle.ckr_desk_turn.specs.Taken.{behind_entry, served_by, taken_of}
-use Rattle.ckr_desk_turn.specs.Turns.{AnsweredTurn, IsAnsweredTurnOf, carried_out, desk_after, turn_of}
+use Rattle.ckr_desk_turn.specs.Turns.{AnsweredTurn, IsAnsweredTurnOf, IsMountedTurnOf, MountedTurn, carried_out, desk_after, plan_for, turn_of}
 use Rattle.ckr_desk_turn.specs.Units.{StepProgress, UnitEnd, unit_end}
-use Rattle.ckr_desk_turn.specs.Invariant.{IsDesk, IsTurnOf, Keeps}
+use Rattle.ckr_desk_turn.specs.Invariant.{IsDesk, Keeps}
 use Rattle.ckr_desk_turn.proofs.Turns.Initiator.{turn-keeps}
 
 -- ---- the layout stays
@@ -73,9 +71,9 @@ plan-layout answer (Take job) desk = taken-layout job desk
 plan-layout answer (Ask inquiry) desk = done-layout (decided answer inquiry) desk
 plan-layout answer (Wait job code) desk = refl
 
-pub turn-layout : (desk : DeskModel) (turn : Turn) (answer : Answer) → (turn_of desk turn answer).desk.layout ≡ desk.layout
+pub turn-layout : (desk : DeskModel) (one : MountedTurn) (answer : Answer) → (turn_of desk one answer).desk.layout ≡ desk.layout
 unfolding turn_of
-turn-layout desk turn answer = plan-layout answer (plan_of desk.layout (jobs_of desk) turn) desk
+turn-layout desk one answer = plan-layout answer (plan_for desk.layout (jobs_of desk) one) desk
 
 pub after-layout : (turns : List AnsweredTurn) (desk : DeskModel) → (desk_after turns desk).layout ≡ desk.layout
 after-layout [] desk = refl
@@ -94,7 +92,7 @@ pub turns-kept : (turns : List AnsweredTurn) (desk : DeskModel) → IsDesk desk 
 turns-kept turns desk is each = subst (λ layout. IsKept layout (desk_after turns desk).office) (after-layout turns desk) (turns-keep turns desk is each).kept
 
 -- so does the next turn
-pub next-keeps : (turns : List AnsweredTurn) (turn : Turn) (answer : Answer) (desk : DeskModel) → IsDesk desk → AllByRecursion (IsAnsweredTurnOf desk.layout) turns → IsTurnOf desk.layout turn → Keeps (desk_after turns desk) (turn_of (desk_after turns desk) turn answer)
-next-keeps turns turn answer desk is each next =
-    let there : IsTurnOf (desk_after turns desk).layout turn = subst (λ layout. IsTurnOf layout turn) (sym (after-layout turns desk)) next in
-    turn-keeps (desk_after turns desk) turn answer (turns-keep turns desk is each) there.above there.below
+pub next-keeps : (turns : List AnsweredTurn) (one : MountedTurn) (answer : Answer) (desk : DeskModel) → IsDesk desk → AllByRecursion (IsAnsweredTurnOf desk.layout) turns → IsMountedTurnOf desk.layout one → Keeps (desk_after turns desk) (turn_of (desk_after turns desk) one answer)
+next-keeps turns one answer desk is each next =
+    let there : IsMountedTurnOf (desk_after turns desk).layout one = subst (λ layout. IsMountedTurnOf layout one) (sym (after-layout turns desk)) next in
+    turn-keeps (desk_after turns desk) one answer (turns-keep turns desk is each) there.above there.below

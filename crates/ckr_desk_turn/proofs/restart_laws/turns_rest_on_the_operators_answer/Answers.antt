@@ -3,9 +3,9 @@ use Rattle.ckr_desk_turn.proofs.restart_laws.turns_rest_on_the_operators_answer.
 
 pub returns : goal.returns
 returns c = record {
-  restarted = λ desk turn answer job initiator code checkpoint. restarted-rests desk turn answer job initiator code checkpoint;
-  held = λ desk turn answer job writes code lengths. held-rests desk turn answer job writes code lengths;
-  refused = λ desk turn answer job writes code lengths is above below. refused-rests desk turn answer is job writes code lengths;
-  waits = λ desk turn answer. waits-rests desk turn answer;
-  unasked = λ desk turn answer other. unasked-same desk turn answer other;
+  restarted = λ desk one answer job initiator code checkpoint. restarted-rests desk one answer job initiator code checkpoint;
+  held = λ desk one answer job writes code lengths. held-rests desk one answer job writes code lengths;
+  refused = λ desk one answer job writes code lengths is above below. refused-rests desk one answer is job writes code lengths;
+  waits = λ desk one answer. waits-rests desk one answer;
+  unasked = λ desk one answer other. unasked-same desk one answer other;
 }

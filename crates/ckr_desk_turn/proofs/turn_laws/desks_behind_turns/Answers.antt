@@ -6,6 +6,6 @@ pub returns : goal.returns
 returns c = record {
   behind = λ turns desk is each. turns-keep turns desk is each;
   kept = λ turns desk is each. turns-kept turns desk is each;
-  next = λ turns turn answer desk is each next. (next-keeps turns turn answer desk is each next).comes;
-  one = λ desk turn answer is of. ((next-keeps [] turn answer desk is tt of).comes, turns-kept (record { turn = turn; answer = answer } ∷ []) desk is (of, tt));
+  next = λ turns one answer desk is each next. (next-keeps turns one answer desk is each next).comes;
+  one = λ desk one answer is of. ((next-keeps [] one answer desk is tt of).comes, turns-kept (record { turn = one; answer = answer } ∷ []) desk is (of, tt));
 }

@@ -1,4 +1,4 @@
-use Rattle.ckr_queue.proofs.Mounts.{given-unit}
+use Rattle.ckr_queue.proofs.Assignments.{given-unit}
 use Rattle.ckr_queue.proofs.laws.pinned_volume_gets_unit.Goals as goal
 
 pub returns : goal.returns

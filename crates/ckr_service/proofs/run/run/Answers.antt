@@ -30,7 +30,7 @@ returns-in-Ok g c =
     let operators = map g.O.Operator.answering c.args.operators.items in
     let start = staffed_with operators (state_of d.content desk) in
     let opened = staffed-opened d.content g.O.Operator.answering operators c.next-operator.result desk c.new-roster.result c.next-operator.new.self
-    c.new-roster.ensures.later c.new-roster.ensures.place c.next-operator.ensures e.operator in
+    c.new-roster.ensures.later c.new-roster.ensures.place c.next-operator.ensures e.machine_room in
     let served = serving_so (IsTrusted d.told d.content d.may_leave desk) (AllSound d.told d.may_leave d.size disk) (KeepsTo d.content d.moment d.left_since d.size desk end) (each (layout_of desk))
     (HasSuch d.content d.moment d.left_since d.size desk end) (has (layout_of desk)) e.trusted
     (λ all came. each_served d.told d.content d.may_leave d.moment d.left_since d.size disk desk end (e.kept all) (e.records all.tells) e.size came)

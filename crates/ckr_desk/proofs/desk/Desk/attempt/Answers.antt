@@ -27,7 +27,7 @@ checkpoint_reply-reply-requires-2 g c = c.self.invariant.are.rows
 
 pub returns-in_default-2-clause-attempt : goal.returns-in_default-2-clause-attempt
 returns-in_default-2-clause-attempt g c =
-    let old : DeskView g.row.D.Denot = record { store = c.self.inside.store; jobs = c.self.inside.jobs; operator = c.self.inside.console } in
+    let old : DeskView g.row.D.Denot = record { store = c.self.inside.store; jobs = c.self.inside.jobs; machine_room = c.self.inside.machine_room } in
     subst (λ (s : DeskView g.row.D.Denot). IsUnfit c.args.run s c.checkpoint_reply-reply.result) c.self.view_is
     (unfit-with c.args.run old (step_seen c.in-Some.on.now) (sym c.in-Some.ensures.step) (c.in-Some.ensures.own c.self.invariant.own) c.checkpoint_reply-reply.result c.checkpoint_reply-reply.ensures
     (λ row own at within. sym (c.in_ok-made.ensures.fits row own at within) ∙ ap is_some c.in_default-2.is))
@@ -47,7 +47,7 @@ make_ready-requires-clause-deck g c κs within =
 
 pub returns-clause-attempt : goal.returns-clause-attempt
 returns-clause-attempt g c =
-    let old : DeskView g.row.D.Denot = record { store = c.self.inside.store; jobs = c.self.inside.jobs; operator = c.self.inside.console } in
+    let old : DeskView g.row.D.Denot = record { store = c.self.inside.store; jobs = c.self.inside.jobs; machine_room = c.self.inside.machine_room } in
     let now = c.args.self.now in
     let new = c.make_ready.new.self in
     let jobs = c.make_ready.ensures.jobs in
@@ -64,7 +64,7 @@ returns-clause-attempt g c =
 
 pub returns-in_err-ready-clause-cause : goal.returns-in_err-ready-clause-cause
 returns-in_err-ready-clause-cause g c =
-    let old : DeskView g.row.D.Denot = record { store = c.self.inside.store; jobs = c.self.inside.jobs; operator = c.self.inside.console } in
+    let old : DeskView g.row.D.Denot = record { store = c.self.inside.store; jobs = c.self.inside.jobs; machine_room = c.self.inside.machine_room } in
     let now = c.args.self.now in
     subst (λ r. IfErr r (NotAttempted c.args.run now c.make_ready.new.self)) (sym (err-is c.from_residual-in_err-ready.result c.in_err-ready.field-0.0 c.from_residual-in_err-ready.ensures.1))
     (not-ready c.args.run now c.make_ready.new.self c.in-Some-2.made (subst (λ (s : DeskView g.row.D.Denot). IsMade c.args.run s c.in-Some-2.made) c.self.view_is

@@ -7,7 +7,7 @@ use Rattle.ckr_volumes.specs.declared.layout.Layout.{Layout}
 use Rattle.ckr_console.specs.Answering.{restart_answer}
 use Rattle.ckr_desk_turn.specs.declared.failed_run.FailedRun.{FailedRun}
 use Rattle.ckr_desk_turn.specs.Inquiries.{decide, is_ask}
-use Rattle.ckr_desk_turn.specs.Plans.{plan_of}
+use Rattle.ckr_desk_turn.specs.Turns.{plan_for}
 use Rattle.ckr_desk_store.specs.State.{IsSound, StoreView}
 use Rattle.ckr_book.specs.Book.{room_of}
 use Rattle.ckr_desk.proofs.Calls.FullBooks.{of-disk-numbers, unsettled-numbers}
@@ -25,7 +25,7 @@ use Rattle.ckr_desk.specs.Continuation.{PlanKnows, PlanStandsAt}
 use Rattle.ckr_desk.specs.Requests.{MayFail, TellsNumbers}
 use Rattle.ckr_desk.specs.Rewrite.{OpensSame}
 use Rattle.ckr_desk.specs.Soundness.{state_of}
-use Rattle.ckr_desk.specs.State.{DeskView, RoomyDesk}
+use Rattle.ckr_desk.specs.State.{DeskView, MachineRoomView, RoomyDesk}
 use Rattle.ckr_desk.specs.Turn.{AnswerStands, AnswerStandsBy, asks, event_of_turn, reply_of}
 use Rattle.ckr_desk.specs.NoChange.{StaysBy}
 use Rattle.ckr_desk.specs.Units.{HasTurned, IsSettledPlan, IsPlanned}
@@ -40,13 +40,13 @@ checkpoint-requires-clause-due g c κs within = subst (HasDue c.args.self.now.jo
 pub go_on-requires-clause-settled : goal.go_on-requires-clause-settled
 go_on-requires-clause-settled g c κs within =
     subst IsSettledPlan (sym c.in_ok-plan-in_default.ensures.decided)
-    (settled-so (restart_answer c.args.self.now.operator) c.args.plan (rests-so c.args.plan c.in_default.not-Work c.in_default.not-Pass c.in_default.not-Take))
+    (settled-so (restart_answer c.args.self.now.machine_room.operator) c.args.plan (rests-so c.args.plan c.in_default.not-Work c.in_default.not-Pass c.in_default.not-Take))
 
 pub go_on-requires-clause-knows : goal.go_on-requires-clause-knows
 go_on-requires-clause-knows g c κs within =
     let mid = c.settle.new.self in
     subst (PlanKnows mid.jobs.tables.desk mid.jobs.points) (sym c.in_ok-plan-in_default.ensures.decided)
-    (decided-knows mid.jobs.tables.desk mid.jobs.points (restart_answer c.args.self.now.operator) c.args.plan
+    (decided-knows mid.jobs.tables.desk mid.jobs.points (restart_answer c.args.self.now.machine_room.operator) c.args.plan
     (subst (λ (tables : TablesModel). PlanKnows tables mid.jobs.points c.args.plan) (sym c.settle.ensures.jobs.tables)
     (subst (λ (points : List PointView). PlanKnows c.args.self.now.jobs.tables.desk points c.args.plan) (sym c.settle.ensures.jobs.points) c.requires.knows)))
 
@@ -54,7 +54,7 @@ pub go_on-requires-clause-follows : goal.go_on-requires-clause-follows
 go_on-requires-clause-follows g c κs within =
     let now = c.args.self.now in
     subst (PlanFollows c.settle.new.self.store.layout c.settle.new.self.jobs.tables.desk) (sym c.in_ok-plan-in_default.ensures.decided)
-    (decided-follows c.settle.new.self.store.layout c.settle.new.self.jobs.tables.desk (restart_answer now.operator) c.args.plan
+    (decided-follows c.settle.new.self.store.layout c.settle.new.self.jobs.tables.desk (restart_answer now.machine_room.operator) c.args.plan
     (subst (λ (l : Layout). PlanFollows l c.settle.new.self.jobs.tables.desk c.args.plan) (sym (ap (λ (s : StoreView g.row.D.Denot). s.layout) c.settle.ensures.store))
     (subst (λ (tables : TablesModel). PlanFollows now.store.layout tables c.args.plan) (sym c.settle.ensures.jobs.tables) c.requires.follows)))
 
@@ -63,7 +63,7 @@ go_on-requires-clause-commits g c κs within =
     let now = c.args.self.now in
     let mid = c.settle.new.self in
     subst (PlanCommits mid.jobs.tables.desk mid.jobs.running) (sym c.in_ok-plan-in_default.ensures.decided)
-    (decided-commits mid.jobs.tables.desk mid.jobs.running (restart_answer now.operator) c.args.plan
+    (decided-commits mid.jobs.tables.desk mid.jobs.running (restart_answer now.machine_room.operator) c.args.plan
     (subst (λ (tables : TablesModel). PlanCommits tables mid.jobs.running c.args.plan) (sym c.settle.ensures.jobs.tables)
     (subst (λ (running : List RunningStepView). PlanCommits now.jobs.tables.desk running c.args.plan) (sym c.settle.ensures.jobs.running) c.requires.commits)))
 
@@ -71,7 +71,7 @@ pub go_on-requires-clause-leaves : goal.go_on-requires-clause-leaves
 go_on-requires-clause-leaves g c κs within =
     let mid = c.settle.new.self in
     subst (PlanLeaves mid.jobs.failed) (sym c.in_ok-plan-in_default.ensures.decided)
-    (decided-leaves mid.jobs.failed (restart_answer c.args.self.now.operator) c.args.plan (subst (λ (failed : List FailedRun). PlanLeaves failed c.args.plan) (sym c.settle.ensures.jobs.failed) c.requires.leaves))
+    (decided-leaves mid.jobs.failed (restart_answer c.args.self.now.machine_room.operator) c.args.plan (subst (λ (failed : List FailedRun). PlanLeaves failed c.args.plan) (sym c.settle.ensures.jobs.failed) c.requires.leaves))
 
 pub go_on-requires-clause-ready : goal.go_on-requires-clause-ready
 go_on-requires-clause-ready g c κs within = c.in_ok-plan-in_default.ensures.ready
@@ -82,7 +82,7 @@ returns-in_err-plan-in_default g c =
     let now = c.args.self.now in
     let mid = c.settle.new.self in
     let plan = c.args.plan in
-    let answer = restart_answer now.operator in
+    let answer = restart_answer now.machine_room.operator in
     let settled = settled-so answer plan (rests-so plan c.in_default.not-Work c.in_default.not-Pass c.in_default.not-Take) in
     let store = c.settle.ensures.store in
     let before = as-before d.content d.may_leave now mid d.told (same-unchanged d.content d.may_leave now mid c.settle.ensures.jobs store) in
@@ -103,10 +103,11 @@ returns-in_err-plan-in_default g c =
           (go-unsettled d.told d.content d.may_leave d.moment d.left_since d.size d.faults now p.trusted turn p.its answer plan mid error p.planned settled cause)
           (unsettled-takes d.told d.content d.may_leave d.moment d.left_since d.size d.faults now p.trusted turn p.its answer plan mid error (book-short now.store.layout (d.size now.store.disk) sound.header) p.planned settled cause));
       answered = λ turn p.
-          subst (AnswerStands (asks (state_of d.content now) turn answer) now.operator mid.operator) (sym is)
-          (subst (λ b. AnswerStandsBy b now.operator mid.operator error)
+          subst (AnswerStands (asks (state_of d.content now) turn answer) now.machine_room mid.machine_room) (sym is)
+          (subst (λ b. AnswerStandsBy b now.machine_room mid.machine_room error)
           (sym (go-asks d.told d.content d.may_leave d.moment d.left_since d.size d.faults now p.trusted turn p.its answer (decide answer plan) (ap (decide answer) p.planned, settled) ∙ ap is_ask p.planned))
           c.in_err-plan-in_default.ensures.answered);
+      mounts = c.settle.ensures.mounts;
       spelled = subst (λ r. IfOk r IsToldReply) (sym is) tt;
       is_open = subst (λ r. OnOk r (mid.store.fault ≡ None)) (sym is) tt;
       layout = ap (λ (s : StoreView g.row.D.Denot). s.layout) store;
@@ -123,7 +124,7 @@ returns-in_ok-plan-in_default g c =
     let now = c.args.self.now in
     let mid = c.settle.new.self in
     let plan = c.args.plan in
-    let answer = restart_answer now.operator in
+    let answer = restart_answer now.machine_room.operator in
     let its = c.in_ok-plan-in_default.plan in
     let shape = c.in_ok-plan-in_default.ensures.spelled in
     let decided_so = c.in_ok-plan-in_default.ensures.decided in
@@ -143,7 +144,7 @@ returns-in_ok-plan-in_default g c =
     record {
       turned = λ turn p at.
           let q = planned-before d.told d.content d.may_leave d.moment d.left_since d.size now mid before sized since turn plan p in
-          let comes : (decide answer (plan_of mid.store.layout (jobs_of mid.jobs) turn) ≡ its) × IsSettledPlan its = (ap (decide answer) q.planned ∙ sym decided_so, settled_its) in
+          let comes : (decide answer (plan_for mid.store.layout (jobs_of mid.jobs) turn) ≡ its) × IsSettledPlan its = (ap (decide answer) q.planned ∙ sym decided_so, settled_its) in
           let stands : PlanStandsAt (state_of d.content mid).desk mid.jobs.points its =
           subst (PlanStandsAt (state_of d.content mid).desk mid.jobs.points) (sym decided_so)
           (decided-stands (state_of d.content mid).desk mid.jobs.points answer plan
@@ -163,9 +164,10 @@ returns-in_ok-plan-in_default g c =
                 (go-kept d.told d.content d.may_leave d.moment d.left_since d.size d.faults mid q.trusted turn q.its answer its new comes shape opens (c.go_on.ensures.left p.trusted.tells));
           });
       answered = λ turn p.
-          stands-as (is_ask plan) (asks (state_of d.content now) turn answer) now.operator new.operator c.go_on.result
+          stands-as (is_ask plan) (asks (state_of d.content now) turn answer) now.machine_room new.machine_room c.go_on.result
           (go-asks d.told d.content d.may_leave d.moment d.left_since d.size d.faults now p.trusted turn p.its answer (decide answer plan) (ap (decide answer) p.planned, settled) ∙ ap is_ask p.planned)
-          (given-stands (is_ask plan) now.operator new.operator (c.go_on.ensures.operator ∙ c.in_ok-plan-in_default.ensures.answered) c.go_on.result of_disk);
+          (given-stands (is_ask plan) now.machine_room new.machine_room (c.go_on.ensures.machine_room ∙ c.in_ok-plan-in_default.ensures.answered) c.go_on.result of_disk);
+      mounts = ap (λ (room : MachineRoomView). room.mounts) c.go_on.ensures.machine_room ∙ c.settle.ensures.mounts;
       spelled = c.go_on.ensures.spelled;
       is_open = c.go_on.ensures.is_open;
       layout = c.go_on.ensures.layout ∙ ap (λ (s : StoreView g.row.D.Denot). s.layout) store;
@@ -188,11 +190,12 @@ returns-in-Pass g c =
     let since = now-left d.told d.content d.may_leave d.moment d.left_since d.size now sound c.requires.is_open (laws.only_now now.store.disk) in
     record {
       turned = λ turn p at.
-          turned-past d.told d.content d.may_leave d.moment d.left_since d.size now turn (restart_answer now.operator) c.in-Pass.job c.in-Pass.reply new.jobs new.operator c.pass.ensures.passed
+          turned-past d.told d.content d.may_leave d.moment d.left_since d.size now turn (restart_answer now.machine_room.operator) c.in-Pass.job c.in-Pass.reply new.jobs new.machine_room c.pass.ensures.passed
           (subst (IsPlanned d.told d.content d.may_leave now turn) c.in-Pass.is p) new.store store since;
       answered = λ turn p.
-          unasked (asks (state_of d.content now) turn (restart_answer now.operator)) now.operator new.operator
-          (pass-quiet d.told d.content d.may_leave d.size now p.trusted turn p.its (restart_answer now.operator) c.in-Pass.job c.in-Pass.reply (p.planned ∙ c.in-Pass.is)) c.pass.ensures.operator;
+          unasked (asks (state_of d.content now) turn (restart_answer now.machine_room.operator)) now.machine_room new.machine_room
+          (pass-quiet d.told d.content d.may_leave d.size now p.trusted turn p.its (restart_answer now.machine_room.operator) c.in-Pass.job c.in-Pass.reply (p.planned ∙ c.in-Pass.is)) c.pass.ensures.machine_room;
+      mounts = ap (λ (room : MachineRoomView). room.mounts) c.pass.ensures.machine_room;
       spelled = subst IsSpelledPlan c.in-Pass.is c.requires.spelled;
       is_open = ap (λ (s : StoreView g.row.D.Denot). s.fault) store ∙ c.requires.is_open;
       layout = ap (λ (s : StoreView g.row.D.Denot). s.layout) store;
@@ -213,11 +216,14 @@ returns-in-Work-clause-answered g c = λ turn p. c.work.ensures.answered turn (s
 
 pub returns-in-Take-clause-turned : goal.returns-in-Take-clause-turned
 returns-in-Take-clause-turned g c = λ turn p at.
-    c.checkpoint.ensures.turned turn (restart_answer c.args.self.now.operator) (subst (IsPlanned g.D.Disk.told g.D.Disk.content g.D.Disk.may_leave c.args.self.now turn) c.in-Take.is p)
+    c.checkpoint.ensures.turned turn (restart_answer c.args.self.now.machine_room.operator) (subst (IsPlanned g.D.Disk.told g.D.Disk.content g.D.Disk.may_leave c.args.self.now turn) c.in-Take.is p)
 
 pub returns-in-Take-clause-answered : goal.returns-in-Take-clause-answered
 returns-in-Take-clause-answered g c = λ turn p.
     let d = g.D.Disk in
     let now = c.args.self.now in
-    unasked-stands (asks (state_of d.content now) turn (restart_answer now.operator)) now.operator c.checkpoint.new.self.operator
-    (take-quiet d.told d.content d.may_leave d.size now p.trusted turn p.its (restart_answer now.operator) c.in-Take.job (p.planned ∙ c.in-Take.is)) c.checkpoint.ensures.operator c.checkpoint.result
+    unasked-stands (asks (state_of d.content now) turn (restart_answer now.machine_room.operator)) now.machine_room c.checkpoint.new.self.machine_room
+    (take-quiet d.told d.content d.may_leave d.size now p.trusted turn p.its (restart_answer now.machine_room.operator) c.in-Take.job (p.planned ∙ c.in-Take.is)) c.checkpoint.ensures.machine_room c.checkpoint.result
+
+pub returns-in-Take-clause-mounts : goal.returns-in-Take-clause-mounts
+returns-in-Take-clause-mounts g c = ap (λ (room : MachineRoomView). room.mounts) c.checkpoint.ensures.machine_room

@@ -42,7 +42,7 @@ returns-in_err-attempt g c =
           (attempt-cause d.told d.content d.may_leave d.moment d.left_since d.size now p.trusted turn p.its c.args.run p.planned answer mid error cause)
           (attempt-takes d.told d.content d.may_leave d.moment d.left_since d.size now p.trusted turn p.its c.args.run p.planned answer mid error c.requires.due cause));
       spelled = subst (λ r. IfOk r IsToldReply) (sym is) tt;
-      operator = c.attempt.ensures.operator;
+      machine_room = c.attempt.ensures.machine_room;
       is_open = subst (λ r. OnOk r (mid.store.fault ≡ None)) (sym is) tt;
       layout = ap (λ (s : StoreView g.row.D.Denot). s.layout) store;
       size = sized;
@@ -73,9 +73,9 @@ returns-in-Unfit g c =
       turned = λ turn answer p.
           let q = planned-before d.told d.content d.may_leave d.moment d.left_since d.size now mid before sized since turn (Take c.args.run) p in
           turned-before d.told d.content d.may_leave d.moment d.left_since d.size now mid before sized since turn answer p.trusted new _
-          (turned-unfit d.told d.content d.may_leave d.moment d.left_since d.size mid q.trusted turn q.its c.args.run q.planned c.in-Unfit.reply unfit answer new.jobs new.operator c.pass.ensures.passed new.store c.pass.ensures.store at_mid);
+          (turned-unfit d.told d.content d.may_leave d.moment d.left_since d.size mid q.trusted turn q.its c.args.run q.planned c.in-Unfit.reply unfit answer new.jobs new.machine_room c.pass.ensures.passed new.store c.pass.ensures.store at_mid);
       spelled = subst IsToldReply (sym unfit.reply_is.is) tt;
-      operator = c.pass.ensures.operator ∙ c.attempt.ensures.operator;
+      machine_room = c.pass.ensures.machine_room ∙ c.attempt.ensures.machine_room;
       is_open = ap (λ (s : StoreView g.row.D.Denot). s.fault) store ∙ c.requires.is_open;
       layout = ap (λ (s : StoreView g.row.D.Denot). s.layout) store;
       size = ap (λ (s : StoreView g.row.D.Denot). d.size s.disk) store;
@@ -103,7 +103,7 @@ returns-in-Fit g c =
           turned-before d.told d.content d.may_leave d.moment d.left_since d.size now mid before sized since turn answer p.trusted new c.take.result
           (c.take.ensures.turned turn answer (planned-before d.told d.content d.may_leave d.moment d.left_since d.size now mid before sized since turn (Take c.args.run) p));
       spelled = c.take.ensures.spelled;
-      operator = c.take.ensures.operator ∙ c.attempt.ensures.operator;
+      machine_room = c.take.ensures.machine_room ∙ c.attempt.ensures.machine_room;
       is_open = c.take.ensures.is_open;
       layout = c.take.ensures.layout ∙ ap (λ (s : StoreView g.row.D.Denot). s.layout) store;
       size = c.take.ensures.size ∙ sized;

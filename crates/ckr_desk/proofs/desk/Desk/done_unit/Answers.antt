@@ -31,7 +31,7 @@ do_unit-requires-clause-runnable g c κs within = c.in-Some.ensures.runnable c.s
 pub do_unit-requires-clause-unit : goal.do_unit-requires-clause-unit
 do_unit-requires-clause-unit g c κs within =
     let d = g.D.Disk in
-    let old : DeskView g.row.D.Denot = record { store = c.self.inside.store; jobs = c.self.inside.jobs; operator = c.self.inside.console } in
+    let old : DeskView g.row.D.Denot = record { store = c.self.inside.store; jobs = c.self.inside.jobs; machine_room = c.self.inside.machine_room } in
     let unit = c.args.unit in
     let of = subst (λ (s : DeskView g.row.D.Denot). IsWorkedOut d.told d.content c.args.run s unit) (sym c.self.view_is) c.requires.unit in
     subst (λ (on : RunningStepView). HasWorkedOut d.told (d.content old.store.disk) old.store.layout on.step on.sets unit)
@@ -48,7 +48,7 @@ invariant_of-self g c =
 pub returns-in_err-do_unit-clause-left : goal.returns-in_err-do_unit-clause-left
 returns-in_err-do_unit-clause-left g c =
     let d = g.D.Disk in
-    let old : DeskView g.row.D.Denot = record { store = c.self.inside.store; jobs = c.self.inside.jobs; operator = c.self.inside.console } in
+    let old : DeskView g.row.D.Denot = record { store = c.self.inside.store; jobs = c.self.inside.jobs; machine_room = c.self.inside.machine_room } in
     let on = step_seen c.in-Some.on in
     rw (← c.self.view_is)
     (in_other_words d.moment d.left_since old.store.disk c.do_unit.new.store.disk
@@ -80,7 +80,7 @@ invariant_of-self-2 g c =
 pub returns-clause-commits : goal.returns-clause-commits
 returns-clause-commits g c =
     let d = g.D.Disk in
-    let old : DeskView g.row.D.Denot = record { store = c.self.inside.store; jobs = c.self.inside.jobs; operator = c.self.inside.console } in
+    let old : DeskView g.row.D.Denot = record { store = c.self.inside.store; jobs = c.self.inside.jobs; machine_room = c.self.inside.machine_room } in
     let run = c.args.run in
     let on = step_seen c.in-Some.on in
     let moved = step_seen c.do_unit.new.on in
@@ -100,7 +100,7 @@ returns-clause-commits g c =
 pub returns-clause-done : goal.returns-clause-done
 returns-clause-done g c =
     let d = g.D.Disk in
-    let old : DeskView g.row.D.Denot = record { store = c.self.inside.store; jobs = c.self.inside.jobs; operator = c.self.inside.console } in
+    let old : DeskView g.row.D.Denot = record { store = c.self.inside.store; jobs = c.self.inside.jobs; machine_room = c.self.inside.machine_room } in
     let on = step_seen c.in-Some.on in
     let moved = step_seen c.do_unit.new.on in
     let unit = c.args.unit in
@@ -132,7 +132,7 @@ returns-clause-done g c =
 pub returns-clause-left : goal.returns-clause-left
 returns-clause-left g c =
     let d = g.D.Disk in
-    let old : DeskView g.row.D.Denot = record { store = c.self.inside.store; jobs = c.self.inside.jobs; operator = c.self.inside.console } in
+    let old : DeskView g.row.D.Denot = record { store = c.self.inside.store; jobs = c.self.inside.jobs; machine_room = c.self.inside.machine_room } in
     let on = step_seen c.in-Some.on in
     rw (← c.self.view_is)
     (in_other_words d.moment d.left_since old.store.disk c.do_unit.new.store.disk

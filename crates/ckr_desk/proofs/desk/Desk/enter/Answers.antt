@@ -48,7 +48,7 @@ returns-in_err-append-clause-left g c =
     let counts = ap (λ s. may_count c.args.event.now s.jobs.tables.desk.sets) c.self.view_is ∙ c.requires.ready.counts in
     let mid = c.sync.new.self in
     rw (← c.self.view_is)
-    (appended-store d.told d.content d.may_leave d.moment d.left_since d.size c.args.event.now (option_map rc_value c.args.deck) (record { store = old.store; jobs = old.jobs; operator = old.console }) mid c.append.new.self
+    (appended-store d.told d.content d.may_leave d.moment d.left_since d.size c.args.event.now (option_map rc_value c.args.deck) (record { store = old.store; jobs = old.jobs; machine_room = old.machine_room }) mid c.append.new.self
     c.in_ok-sync.ensures.kept (and_from _ _ follows counts) c.layout-layout.ensures.sound.laid
     (c.sync.ensures.any_moment is_open) c.sync.ensures.only_reads c.sync.ensures.size c.in_ok-sync.ensures.settled
     (subst (λ bytes. EachSince d.moment d.left_since mid.disk c.append.new.self.disk (Opens mid.layout (d.size mid.disk) (IsBeforeOrAfter (event_records mid.layout (d.content mid.disk)) bytes))) c.of-bytes.ensures
@@ -63,7 +63,7 @@ returns-clause-left g c =
     let counts = ap (λ s. may_count c.args.event.now s.jobs.tables.desk.sets) c.self.view_is ∙ c.requires.ready.counts in
     let mid = c.sync.new.self in
     rw (← c.self.view_is)
-    (appended-store d.told d.content d.may_leave d.moment d.left_since d.size c.args.event.now (option_map rc_value c.args.deck) (record { store = old.store; jobs = old.jobs; operator = old.console }) mid c.append.new.self
+    (appended-store d.told d.content d.may_leave d.moment d.left_since d.size c.args.event.now (option_map rc_value c.args.deck) (record { store = old.store; jobs = old.jobs; machine_room = old.machine_room }) mid c.append.new.self
     c.in_ok-sync.ensures.kept (and_from _ _ follows counts) c.layout-layout.ensures.sound.laid
     (c.sync.ensures.any_moment is_open) c.sync.ensures.only_reads c.sync.ensures.size c.in_ok-sync.ensures.settled
     (subst (λ bytes. EachSince d.moment d.left_since mid.disk c.append.new.self.disk (Opens mid.layout (d.size mid.disk) (IsBeforeOrAfter (event_records mid.layout (d.content mid.disk)) bytes))) c.of-bytes.ensures
@@ -105,10 +105,10 @@ returns-in_err-sync-clause-layout g c =
 pub returns-in_err-sync-clause-cause : goal.returns-in_err-sync-clause-cause
 returns-in_err-sync-clause-cause g c =
     let d = g.D.Disk in
-    let old : DeskView g.row.D.Denot = record { store = c.self.inside.store; jobs = c.self.inside.jobs; operator = c.self.inside.console } in
+    let old : DeskView g.row.D.Denot = record { store = c.self.inside.store; jobs = c.self.inside.jobs; machine_room = c.self.inside.machine_room } in
     let error = c.in_err-sync.field-0.0 in
     rw (← c.self.view_is)
-    (subst (λ r. IfErr r (NotEntered d.faults old (record { store = c.sync.new.self; jobs = c.self.inside.jobs; operator = c.self.inside.console }))) (sym (err-is c.from_residual.result (of_store error) c.from_residual.ensures.1))
+    (subst (λ r. IfErr r (NotEntered d.faults old (record { store = c.sync.new.self; jobs = c.self.inside.jobs; machine_room = c.self.inside.machine_room }))) (sym (err-is c.from_residual.result (of_store error) c.from_residual.ensures.1))
     (unsynced d.faults old c.sync.new.self error (ap (λ s. s.store.fault) c.self.view_is ∙ c.requires.is_open) c.in_err-sync.ensures.cause))
 
 pub returns-in_err-append-clause-layout : goal.returns-in_err-append-clause-layout
@@ -119,10 +119,10 @@ returns-in_err-append-clause-layout g c =
 pub returns-in_err-append-clause-cause : goal.returns-in_err-append-clause-cause
 returns-in_err-append-clause-cause g c =
     let d = g.D.Disk in
-    let old : DeskView g.row.D.Denot = record { store = c.self.inside.store; jobs = c.self.inside.jobs; operator = c.self.inside.console } in
+    let old : DeskView g.row.D.Denot = record { store = c.self.inside.store; jobs = c.self.inside.jobs; machine_room = c.self.inside.machine_room } in
     let error = c.in_err-append.field-0.0 in
     rw (← c.self.view_is)
-    (subst (λ r. IfErr r (NotEntered d.faults old (record { store = c.append.new.self; jobs = c.self.inside.jobs; operator = c.self.inside.console }))) (sym (err-is c.from_residual-in_err-append.result (of_store error) c.from_residual-in_err-append.ensures.1))
+    (subst (λ r. IfErr r (NotEntered d.faults old (record { store = c.append.new.self; jobs = c.self.inside.jobs; machine_room = c.self.inside.machine_room }))) (sym (err-is c.from_residual-in_err-append.result (of_store error) c.from_residual-in_err-append.ensures.1))
     (unappended d.faults old c.sync.new.self c.append.new.self _ error (ap (λ s. s.store.fault) c.self.view_is ∙ c.requires.is_open) c.in_ok-sync.ensures.kept c.sync.ensures.faults
     (subst (λ bytes. length bytes + 6 ≤ room_of c.self.inside.store.book) (sym c.of-bytes.ensures)
     (subst (λ (s : DeskView g.row.D.Denot). length (spelling c.args.event.now) + 6 ≤ room_of s.store.book) (sym c.self.view_is) c.requires.ready.fits))

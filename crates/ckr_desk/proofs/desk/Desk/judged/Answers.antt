@@ -7,7 +7,7 @@ use Rattle.ckr_desk_memory.specs.OwnSteps.{AreLeft, HoldTheirOwn, PlanFollows}
 use Rattle.ckr_desk_memory.specs.View.{JobsView, PointView}
 use Rattle.ckr_desk_store.specs.State.{StoreView}
 use Rattle.ckr_desk_turn.specs.Queue.{AreNumbered}
-use Rattle.ckr_desk_turn.specs.declared.reply.Turn.{Turn}
+use Rattle.ckr_desk_turn.specs.Turns.{MountedTurn}
 use Rattle.ckr_library.specs.NameMaps.{EachEntry}
 use Rattle.ckr_points.specs.Follows.{is_in_state, of_run}
 use Rattle.ckr_points.specs.Rows.{TableSet}
@@ -92,13 +92,13 @@ pub returns-in_ok-put_point-in-Ok-clause-trusted : goal.returns-in_ok-put_point-
 returns-in_ok-put_point-in-Ok-clause-trusted g c =
     let d = g.D.Disk in
     let at = c.in-Some.at in
-    let old : DeskView g.row.D.Denot = record { store = c.self.inside.store; jobs = c.self.inside.jobs; operator = c.self.inside.console } in
+    let old : DeskView g.row.D.Denot = record { store = c.self.inside.store; jobs = c.self.inside.jobs; machine_room = c.self.inside.machine_room } in
     let new : JobsView = c.put_point.new.self in
     let program = program_in c.tables.result.now.desk at.earlier at.step in
     let its : IsEntryPoint at.job program c.in-Ok.point = subst (IsPointFound at.job program) c.in-Ok.is c.in_ok-point.ensures.its in
     let is : continuation_in c.args.plan ≡ Some at = sym c.continuation_in.ensures ∙ c.in-Some.is in
     let follow = subst (λ (s : DeskView g.row.D.Denot). PlanFollows s.store.layout s.jobs.tables.desk c.args.plan) (sym c.self.view_is) c.requires.follows in
-    subst (λ (s : DeskView g.row.D.Denot). (turn : Turn) → IsPlanned d.told d.content d.may_leave s turn c.args.plan → GoesOnThere (state_of d.content s).desk new.points c.args.plan c.args.plan) c.self.view_is
+    subst (λ (s : DeskView g.row.D.Denot). (turn : MountedTurn) → IsPlanned d.told d.content d.may_leave s turn c.args.plan → GoesOnThere (state_of d.content s).desk new.points c.args.plan c.args.plan) c.self.view_is
     (λ turn p. record {
       same = refl;
       point = stands-there d.told d.content d.may_leave d.size old p.trusted c.self.invariant.are.laid turn p.its Silent c.args.plan p.planned follow at is c.in-Ok.point new.points
@@ -125,7 +125,7 @@ returns-in_ok-put_point-in-Ok-clause-unchanged g c =
     let d = g.D.Disk in
     let at = c.in-Some.at in
     let old : JobsView = c.self.inside.jobs in
-    let new : DeskView g.row.D.Denot = record { store = c.judged_point.new.store; jobs = c.put_point.new.self; operator = c.self.inside.console } in
+    let new : DeskView g.row.D.Denot = record { store = c.judged_point.new.store; jobs = c.put_point.new.self; machine_room = c.self.inside.machine_room } in
     let program = program_in c.tables.result.now.desk at.earlier at.step in
     let its : IsEntryPoint at.job program c.in-Ok.point = subst (IsPointFound at.job program) c.in-Ok.is c.in_ok-point.ensures.its in
     let is : continuation_in c.args.plan ≡ Some at = sym c.continuation_in.ensures ∙ c.in-Some.is in
@@ -143,10 +143,10 @@ pub returns-in-Err-clause-trusted : goal.returns-in-Err-clause-trusted
 returns-in-Err-clause-trusted g c =
     let d = g.D.Disk in
     let at = c.in-Some.at in
-    let old : DeskView g.row.D.Denot = record { store = c.self.inside.store; jobs = c.self.inside.jobs; operator = c.self.inside.console } in
+    let old : DeskView g.row.D.Denot = record { store = c.self.inside.store; jobs = c.self.inside.jobs; machine_room = c.self.inside.machine_room } in
     let is : continuation_in c.args.plan ≡ Some at = sym c.continuation_in.ensures ∙ c.in-Some.is in
     let follow = subst (λ (s : DeskView g.row.D.Denot). PlanFollows s.store.layout s.jobs.tables.desk c.args.plan) (sym c.self.view_is) c.requires.follows in
-    subst (λ (s : DeskView g.row.D.Denot). (turn : Turn) → IsPlanned d.told d.content d.may_leave s turn c.args.plan → GoesOnThere (state_of d.content s).desk c.match-plan-5.self.jobs.points c.args.plan c.denied.result) c.self.view_is
+    subst (λ (s : DeskView g.row.D.Denot). (turn : MountedTurn) → IsPlanned d.told d.content d.may_leave s turn c.args.plan → GoesOnThere (state_of d.content s).desk c.match-plan-5.self.jobs.points c.args.plan c.denied.result) c.self.view_is
     (λ turn p.
     absurd (not-ok c.in-Err.rule (point-there d.told d.content d.may_leave d.size old p.trusted c.self.invariant.are.laid turn p.its Silent c.args.plan p.planned follow at is).point
     (sym c.in-Err.is ∙ c.in_ok-point.ensures.judged p.trusted.tells ∙ ap (λ (t : RoomyTables). judged_point old.store.layout t.desk (d.content old.store.disk) at) c.tables.ensures

@@ -2,6 +2,7 @@ use Rattle.std.proofs.Common.{◌≡◌, subst, sym}
 use Rattle.ckr_desk_store.specs.State.{StoreView}
 use Rattle.ckr_desk.specs.Entries.{ArePointsRead}
 use Rattle.ckr_desk.specs.FirstSync.{FromSync}
+use Rattle.ckr_desk.proofs.MachineRooms.{units-few}
 use Rattle.ckr_desk.proofs.desk.Desk.read_on.Goals as goal
 
 pub returns-in-Ok-clause-synced : goal.returns-in-Ok-clause-synced
@@ -15,3 +16,6 @@ returns-in-Ok-clause-points g c =
     let its = c.in-Ok.field-0 in
     subst (λ (s : StoreView g.row.D.Denot). ArePointsRead d.told s.layout its.jobs.tables.desk (d.content c.args.disk) its.jobs.points) (sym c.open-store.ensures)
     (subst (λ (image : _). ArePointsRead d.told its.layout its.jobs.tables.desk image its.jobs.points) c.in-Ok.ensures.only_reads.same c.in-Ok.ensures.points)
+
+pub new-mounts-requires : goal.new-mounts-requires
+new-mounts-requires g c = units-few c.in-Ok.field-0.layout _ c.in-Ok.ensures.header

@@ -25,28 +25,28 @@ returns-in_ok-read_all-in-Some-free_set-clause-records g c trusted =
     let now = c.args.self.now in
     ap Some (c.in_ok-read_all-in-Some-free_set.ensures.read trusted.tells)
     ∙ ap (option_map (λ (its : DataSet). records_on (d.content c.self.inside.store.disk) c.self.inside.store.layout its its.length)) (sym (ap option_copied c.in-Some-free_set.is))
-    ∙ of-desk d.told d.content d.may_leave d.moment d.left_since c.self.inside.jobs c.self.inside.console c.self.inside.store now c.args.name.now _ c.self.view_is c.free_set.ensures.records trusted
+    ∙ of-desk d.told d.content d.may_leave d.moment d.left_since c.self.inside.jobs c.self.inside.machine_room c.self.inside.store now c.args.name.now _ c.self.view_is c.free_set.ensures.records trusted
 
 pub returns-in_ok-read_all-in-Some-free_set-clause-kept : goal.returns-in_ok-read_all-in-Some-free_set-clause-kept
 returns-in_ok-read_all-in-Some-free_set-clause-kept g c is_open trusted =
     let d = g.D.Disk in
     let now = c.args.self.now in
     reading-kept d.told d.content d.may_leave d.size now trusted d.moment d.left_since
-    (subst (λ s. IsSound d.content d.may_leave d.size s.store) c.self.view_is c.layout-layout.ensures.sound) is_open (record { store = c.read_all.new.store; jobs = c.self.inside.jobs; operator = c.self.inside.console }) (subst (λ s. EachSince d.moment d.left_since s.store.disk c.read_all.new.store.disk (d.may_leave s.store.disk)) c.self.view_is c.read_all.ensures.only_reads.since)
+    (subst (λ s. IsSound d.content d.may_leave d.size s.store) c.self.view_is c.layout-layout.ensures.sound) is_open (record { store = c.read_all.new.store; jobs = c.self.inside.jobs; machine_room = c.self.inside.machine_room }) (subst (λ s. EachSince d.moment d.left_since s.store.disk c.read_all.new.store.disk (d.may_leave s.store.disk)) c.self.view_is c.read_all.ensures.only_reads.since)
 
 pub returns-in_err-read_all-in-Some-free_set-clause-kept : goal.returns-in_err-read_all-in-Some-free_set-clause-kept
 returns-in_err-read_all-in-Some-free_set-clause-kept g c is_open trusted =
     let d = g.D.Disk in
     let now = c.args.self.now in
     reading-kept d.told d.content d.may_leave d.size now trusted d.moment d.left_since
-    (subst (λ s. IsSound d.content d.may_leave d.size s.store) c.self.view_is c.layout-layout.ensures.sound) is_open (record { store = c.read_all.new.store; jobs = c.self.inside.jobs; operator = c.self.inside.console }) (subst (λ s. EachSince d.moment d.left_since s.store.disk c.read_all.new.store.disk (d.may_leave s.store.disk)) c.self.view_is c.read_all.ensures.only_reads.since)
+    (subst (λ s. IsSound d.content d.may_leave d.size s.store) c.self.view_is c.layout-layout.ensures.sound) is_open (record { store = c.read_all.new.store; jobs = c.self.inside.jobs; machine_room = c.self.inside.machine_room }) (subst (λ s. EachSince d.moment d.left_since s.store.disk c.read_all.new.store.disk (d.may_leave s.store.disk)) c.self.view_is c.read_all.ensures.only_reads.since)
 
 pub returns-in-None-clause-records : goal.returns-in-None-clause-records
 returns-in-None-clause-records g c trusted =
     let d = g.D.Disk in
     let now = c.args.self.now in
     ap (option_map (λ (its : DataSet). records_on (d.content c.self.inside.store.disk) c.self.inside.store.layout its its.length)) (sym (ap option_copied c.in-None.is))
-    ∙ of-desk d.told d.content d.may_leave d.moment d.left_since c.self.inside.jobs c.self.inside.console c.self.inside.store now c.args.name.now _ c.self.view_is c.free_set.ensures.records trusted
+    ∙ of-desk d.told d.content d.may_leave d.moment d.left_since c.self.inside.jobs c.self.inside.machine_room c.self.inside.store now c.args.name.now _ c.self.view_is c.free_set.ensures.records trusted
 
 pub returns-in-None-clause-comes : goal.returns-in-None-clause-comes
 returns-in-None-clause-comes g c trusted = record { fits = refl; after = refl; events = sym (append-nil _); trusted = trusted; cause = tt }
@@ -70,9 +70,9 @@ returns-in_ok-read_all-in-Some-free_set-clause-comes g c trusted =
     let reads = c.read_all.ensures.only_reads in
     record {
       fits = refl;
-      after = state-read d.told d.content d.may_leave d.moment d.left_since jobs c.self.inside.console store later now c.self.view_is kept reads;
-      events = events-read d.told d.content d.may_leave d.moment d.left_since jobs c.self.inside.console store later now c.self.view_is kept reads;
-      trusted = trusted-read d.told d.content d.may_leave d.moment d.left_since jobs c.self.inside.console store later now c.self.view_is kept reads trusted;
+      after = state-read d.told d.content d.may_leave d.moment d.left_since jobs c.self.inside.machine_room store later now c.self.view_is kept reads;
+      events = events-read d.told d.content d.may_leave d.moment d.left_since jobs c.self.inside.machine_room store later now c.self.view_is kept reads;
+      trusted = trusted-read d.told d.content d.may_leave d.moment d.left_since jobs c.self.inside.machine_room store later now c.self.view_is kept reads trusted;
       cause = tt;
     }
 
@@ -80,7 +80,7 @@ pub returns-in_err-read_all-in-Some-free_set-clause-comes : goal.returns-in_err-
 returns-in_err-read_all-in-Some-free_set-clause-comes g c trusted =
     let d = g.D.Disk in
     let now = c.args.self.now in
-    let new : DeskView g.row.D.Denot = record { store = c.read_all.new.store; jobs = c.self.inside.jobs; operator = c.self.inside.console } in
+    let new : DeskView g.row.D.Denot = record { store = c.read_all.new.store; jobs = c.self.inside.jobs; machine_room = c.self.inside.machine_room } in
     let error = c.in_err-read_all-in-Some-free_set.field-0.0 in
     subst (HasComeTo d.told d.content d.may_leave None (state_of d.content now) now new) (sym (err-is c.from_residual.result error c.from_residual.ensures.1))
     (record {
@@ -101,8 +101,8 @@ returns-in_err-read_all-in-Some-free_set-clause-full g c =
 pub returns-in_err-read_all-in-Some-free_set-clause-keeps : goal.returns-in_err-read_all-in-Some-free_set-clause-keeps
 returns-in_err-read_all-in-Some-free_set-clause-keeps g c =
     let d = g.D.Disk in
-    let old : DeskView g.row.D.Denot = record { store = c.self.inside.store; jobs = c.self.inside.jobs; operator = c.self.inside.console } in
-    let new : DeskView g.row.D.Denot = record { store = c.read_all.new.store; jobs = c.self.inside.jobs; operator = c.self.inside.console } in
+    let old : DeskView g.row.D.Denot = record { store = c.self.inside.store; jobs = c.self.inside.jobs; machine_room = c.self.inside.machine_room } in
+    let new : DeskView g.row.D.Denot = record { store = c.read_all.new.store; jobs = c.self.inside.jobs; machine_room = c.self.inside.machine_room } in
     let error = c.in_err-read_all-in-Some-free_set.field-0.0 in
     let cause = c.in_err-read_all-in-Some-free_set.ensures.cause in
     rw (← c.self.view_is)
@@ -114,5 +114,5 @@ returns-in_err-read_all-in-Some-free_set-clause-keeps g c =
       never_falls = c.read_all.ensures.faults;
       stopped = not-stopped old.store.fault (Err error) (sym c.fault.ensures ∙ c.in_default.is);
       may_fail = reading-may-fail d.faults old.store new.store error cause;
-      stays = reading-stays d.faults old.store new.store d.content d.may_leave d.moment d.left_since c.self.inside.jobs c.self.inside.console c.read_all.ensures.only_reads error cause;
+      stays = reading-stays d.faults old.store new.store d.content d.may_leave d.moment d.left_since c.self.inside.jobs c.self.inside.machine_room c.read_all.ensures.only_reads error cause;
     }))

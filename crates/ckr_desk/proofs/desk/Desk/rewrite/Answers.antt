@@ -52,7 +52,7 @@ returns-in_err-write_record-clause-left g c =
     let is_open = ap (λ s. s.store.fault) c.self.view_is ∙ c.requires.is_open in
     rw (← c.self.view_is)
     (λ only.
-    writing-left d.content d.may_leave d.moment d.left_since d.size c.args.event.now (record { store = c.self.inside.store; jobs = c.self.inside.jobs; operator = c.self.inside.console }) only c.write_record.new.self.disk _ _
+    writing-left d.content d.may_leave d.moment d.left_since d.size c.args.event.now (record { store = c.self.inside.store; jobs = c.self.inside.jobs; machine_room = c.self.inside.machine_room }) only c.write_record.new.self.disk _ _
     (c.write_record.ensures.any_moment is_open) c.write_record.ensures.changes.since
     (λ image same.
     lacks-most layout tables w.job w.taken w.writes w.place w.lengths w.image c.args.event.now w.is c.in-Some.name (λ row at. sym (c.updated.ensures row at) ∙ c.in-Some.is)
@@ -72,8 +72,8 @@ returns-in_err-sync-clause-left g c =
     let is_open = ap (λ s. s.store.fault) c.self.view_is ∙ c.requires.is_open in
     rw (← c.self.view_is)
     (λ only.
-    syncing-left d.content d.may_leave d.moment d.left_since d.size c.args.event.now (record { store = c.self.inside.store; jobs = c.self.inside.jobs; operator = c.self.inside.console }) only c.write_record.new.self.disk c.sync.new.self.disk
-    (writing-left d.content d.may_leave d.moment d.left_since d.size c.args.event.now (record { store = c.self.inside.store; jobs = c.self.inside.jobs; operator = c.self.inside.console }) only c.write_record.new.self.disk _ _
+    syncing-left d.content d.may_leave d.moment d.left_since d.size c.args.event.now (record { store = c.self.inside.store; jobs = c.self.inside.jobs; machine_room = c.self.inside.machine_room }) only c.write_record.new.self.disk c.sync.new.self.disk
+    (writing-left d.content d.may_leave d.moment d.left_since d.size c.args.event.now (record { store = c.self.inside.store; jobs = c.self.inside.jobs; machine_room = c.self.inside.machine_room }) only c.write_record.new.self.disk _ _
     (c.write_record.ensures.any_moment is_open) c.write_record.ensures.changes.since
     (λ image same.
     lacks-most layout tables w.job w.taken w.writes w.place w.lengths w.image c.args.event.now w.is c.in-Some.name (λ row at. sym (c.updated.ensures row at) ∙ c.in-Some.is)
@@ -108,8 +108,8 @@ returns-clause-left g c =
     let is_open = ap (λ s. s.store.fault) c.self.view_is ∙ c.requires.is_open in
     rw (← c.self.view_is)
     (λ only.
-    syncing-left d.content d.may_leave d.moment d.left_since d.size c.args.event.now (record { store = c.self.inside.store; jobs = c.self.inside.jobs; operator = c.self.inside.console }) only c.write_record.new.self.disk c.sync.new.self.disk
-    (writing-left d.content d.may_leave d.moment d.left_since d.size c.args.event.now (record { store = c.self.inside.store; jobs = c.self.inside.jobs; operator = c.self.inside.console }) only c.write_record.new.self.disk _ _
+    syncing-left d.content d.may_leave d.moment d.left_since d.size c.args.event.now (record { store = c.self.inside.store; jobs = c.self.inside.jobs; machine_room = c.self.inside.machine_room }) only c.write_record.new.self.disk c.sync.new.self.disk
+    (writing-left d.content d.may_leave d.moment d.left_since d.size c.args.event.now (record { store = c.self.inside.store; jobs = c.self.inside.jobs; machine_room = c.self.inside.machine_room }) only c.write_record.new.self.disk _ _
     (c.write_record.ensures.any_moment is_open) c.write_record.ensures.changes.since
     (λ image same.
     lacks-most layout tables w.job w.taken w.writes w.place w.lengths w.image c.args.event.now w.is c.in-Some.name (λ row at. sym (c.updated.ensures row at) ∙ c.in-Some.is)

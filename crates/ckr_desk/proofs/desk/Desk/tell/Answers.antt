@@ -88,8 +88,8 @@ returns-clause-ok g c =
     on-ok
     (λ told.
     let gone = subst (λ deck. HasGoneOn c.args.event.now deck mid new) c.in_ok-shared.ensures.value told in
-    prepared-gone c.args.event.now c.args.deck now.store now.jobs mid.jobs now.operator mid.operator same.tables same.running same.failed same.points new
-    (subst (λ (s : StoreView g.row.D.Denot). HasGoneOn c.args.event.now c.args.deck (record { store = s; jobs = mid.jobs; operator = mid.operator }) new) c.make_ready.ensures.store gone))
+    prepared-gone c.args.event.now c.args.deck now.store now.jobs mid.jobs now.machine_room mid.machine_room same.tables same.running same.failed same.points new
+    (subst (λ (s : StoreView g.row.D.Denot). HasGoneOn c.args.event.now c.args.deck (record { store = s; jobs = mid.jobs; machine_room = mid.machine_room }) new) c.make_ready.ensures.store gone))
     c.enter.result c.enter.ensures.ok
 
 pub returns-clause-told : goal.returns-clause-told
@@ -112,8 +112,8 @@ returns-clause-left g c is_open =
     let now = c.args.self.now in
     let mid = c.make_ready.new.self in
     let new = c.enter.new.self in
-    prepared-left c.args.event.now c.args.deck now.store now.jobs mid.jobs now.operator mid.operator c.make_ready.ensures.jobs.tables d.content d.may_leave d.moment d.left_since d.size new.store.disk
-    (subst (λ (s : StoreView g.row.D.Denot). EachSince d.moment d.left_since s.disk new.store.disk (IsLeftBy d.content d.may_leave d.size c.args.event.now c.args.deck (record { store = s; jobs = mid.jobs; operator = mid.operator }))) c.make_ready.ensures.store
+    prepared-left c.args.event.now c.args.deck now.store now.jobs mid.jobs now.machine_room mid.machine_room c.make_ready.ensures.jobs.tables d.content d.may_leave d.moment d.left_since d.size new.store.disk
+    (subst (λ (s : StoreView g.row.D.Denot). EachSince d.moment d.left_since s.disk new.store.disk (IsLeftBy d.content d.may_leave d.size c.args.event.now c.args.deck (record { store = s; jobs = mid.jobs; machine_room = mid.machine_room }))) c.make_ready.ensures.store
     (subst (λ deck. EachSince d.moment d.left_since mid.store.disk new.store.disk (IsLeftBy d.content d.may_leave d.size c.args.event.now deck mid)) c.in_ok-shared.ensures.value c.enter.ensures.left))
 
 pub returns-clause-cause : goal.returns-clause-cause
@@ -125,6 +125,6 @@ returns-clause-cause g c =
     let same = c.make_ready.ensures.jobs in
     if-err
     (λ error not.
-    prepared-cause c.args.event.now c.args.deck now.store now.jobs mid.jobs now.operator mid.operator same.tables same.running same.failed same.points d.faults new error
-    (subst (λ (s : StoreView g.row.D.Denot). NotEntered d.faults (record { store = s; jobs = mid.jobs; operator = mid.operator }) new error) c.make_ready.ensures.store not))
+    prepared-cause c.args.event.now c.args.deck now.store now.jobs mid.jobs now.machine_room mid.machine_room same.tables same.running same.failed same.points d.faults new error
+    (subst (λ (s : StoreView g.row.D.Denot). NotEntered d.faults (record { store = s; jobs = mid.jobs; machine_room = mid.machine_room }) new error) c.make_ready.ensures.store not))
     c.enter.result c.enter.ensures.cause

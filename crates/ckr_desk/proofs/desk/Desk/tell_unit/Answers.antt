@@ -11,7 +11,7 @@ use Rattle.ckr_desk.proofs.Units.Preparation.{err-is, look-cause, look-takes}
 use Rattle.ckr_desk.proofs.Trust.Counts.{book-short}
 use Rattle.ckr_desk.specs.Requests.{TellsNumbers}
 use Rattle.ckr_desk.specs.Rewrite.{OpensSame}
-use Rattle.ckr_desk.specs.State.{DeskView}
+use Rattle.ckr_desk.specs.State.{DeskView, MachineRoomView}
 use Rattle.ckr_desk.proofs.Turns.Answers.{given-stands, stands-as}
 use Rattle.ckr_desk.proofs.Units.Questions.{asks-ahead, at-step}
 use Rattle.ckr_desk.specs.Preparation.{asks_behind}
@@ -39,10 +39,10 @@ returns-in_err-ahead-clause-turned g c turn p =
     (now-left d.told d.content d.may_leave d.moment d.left_since d.size now sound c.requires.is_open (laws.only_now now.store.disk)) in
     let sized = ap (λ (s : StoreView g.row.D.Denot). d.size s.disk) e.store in
     let later = planned-before d.told d.content d.may_leave d.moment d.left_since d.size now new is sized since turn (Work c.args.run) p in
-    subst (HasTurned d.told d.content d.may_leave d.moment d.left_since d.size turn (restart_answer now.operator) now new) (sym (err-is c.from_residual.result c.in_err-ahead.field-0.0 c.from_residual.ensures.1))
-    (turned-not d.told d.content d.may_leave d.moment d.left_since d.size now new is sized since turn (restart_answer now.operator) p.trusted c.in_err-ahead.field-0.0
-    (look-cause d.told d.content d.may_leave d.moment d.left_since d.size c.args.run (restart_answer now.operator) now new turn p later is c.in_err-ahead.field-0.0 c.in_err-ahead.ensures.cause)
-    (look-takes d.told d.content d.may_leave d.moment d.left_since d.size c.args.run (restart_answer now.operator) now new turn later is (subst (λ (l : Layout). l.book ≤ 4294967295) (sym (ap (λ (s : StoreView g.row.D.Denot). s.layout) e.store)) (book-short now.store.layout (d.size now.store.disk) sound.header)) c.in_err-ahead.field-0.0 c.in_err-ahead.ensures.cause))
+    subst (HasTurned d.told d.content d.may_leave d.moment d.left_since d.size turn (restart_answer now.machine_room.operator) now new) (sym (err-is c.from_residual.result c.in_err-ahead.field-0.0 c.from_residual.ensures.1))
+    (turned-not d.told d.content d.may_leave d.moment d.left_since d.size now new is sized since turn (restart_answer now.machine_room.operator) p.trusted c.in_err-ahead.field-0.0
+    (look-cause d.told d.content d.may_leave d.moment d.left_since d.size c.args.run (restart_answer now.machine_room.operator) now new turn p later is c.in_err-ahead.field-0.0 c.in_err-ahead.ensures.cause)
+    (look-takes d.told d.content d.may_leave d.moment d.left_since d.size c.args.run (restart_answer now.machine_room.operator) now new turn later is (subst (λ (l : Layout). l.book ≤ 4294967295) (sym (ap (λ (s : StoreView g.row.D.Denot). s.layout) e.store)) (book-short now.store.layout (d.size now.store.disk) sound.header)) c.in_err-ahead.field-0.0 c.in_err-ahead.ensures.cause))
 
 pub returns-clause-turned : goal.returns-clause-turned
 returns-clause-turned g c turn p =
@@ -56,15 +56,15 @@ returns-clause-turned g c turn p =
     let since = same-left d.moment d.left_since now.store mid.store (λ image. OpensSame d.content d.size now image × d.may_leave now.store.disk image) e.store
     (now-left d.told d.content d.may_leave d.moment d.left_since d.size now sound c.requires.is_open (laws.only_now now.store.disk)) in
     let sized = ap (λ (s : StoreView g.row.D.Denot). d.size s.disk) e.store in
-    turned-before d.told d.content d.may_leave d.moment d.left_since d.size now mid is sized since turn (restart_answer now.operator) p.trusted c.work_on.new.self c.work_on.result
-    (c.work_on.ensures.turned turn (restart_answer now.operator) (planned-before d.told d.content d.may_leave d.moment d.left_since d.size now mid is sized since turn (Work c.args.run) p) c.in_ok-ahead.ensures.ahead)
+    turned-before d.told d.content d.may_leave d.moment d.left_since d.size now mid is sized since turn (restart_answer now.machine_room.operator) p.trusted c.work_on.new.self c.work_on.result
+    (c.work_on.ensures.turned turn (restart_answer now.machine_room.operator) (planned-before d.told d.content d.may_leave d.moment d.left_since d.size now mid is sized since turn (Work c.args.run) p) c.in_ok-ahead.ensures.ahead)
 
 pub returns-in_err-ahead-clause-full : goal.returns-in_err-ahead-clause-full
 returns-in_err-ahead-clause-full g c =
     let d = g.D.Disk in
     let now = c.args.self.now in
     subst (λ r. IfErr r (TellsNumbers (room_of now.store.book))) (sym (err-is c.from_residual.result c.in_err-ahead.field-0.0 c.from_residual.ensures.1))
-    (unlooked-numbers now c.look.new.self d.told d.content c.args.run (restart_answer now.operator) (ap (λ (s : StoreView g.row.D.Denot). room_of s.book) c.look.ensures.store) c.in_err-ahead.field-0.0 c.in_err-ahead.ensures.cause)
+    (unlooked-numbers now c.look.new.self d.told d.content c.args.run (restart_answer now.machine_room.operator) (ap (λ (s : StoreView g.row.D.Denot). room_of s.book) c.look.ensures.store) c.in_err-ahead.field-0.0 c.in_err-ahead.ensures.cause)
 
 pub returns-clause-full : goal.returns-clause-full
 returns-clause-full g c = if-err (of-disk-numbers (room_of c.args.self.now.store.book)) c.work_on.result c.work_on.ensures.of_disk
@@ -75,11 +75,11 @@ returns-in_err-ahead-clause-answered g c turn p =
     let d = g.D.Disk in
     let now = c.args.self.now in
     let new = c.look.new.self in
-    let answer = restart_answer now.operator in
+    let answer = restart_answer now.machine_room.operator in
     let unit = c.args.unit in
     let at = at-step d.told d.content d.may_leave d.moment d.left_since d.size now p.trusted turn c.args.run p.planned unit c.requires.unit answer in
-    subst (AnswerStands (asks (state_of d.content now) turn answer) now.operator new.operator) (sym (err-is c.from_residual.result c.in_err-ahead.field-0.0 c.from_residual.ensures.1))
-    (stands-as (asks_behind now at.0 c.requires.unit.on unit) (asks (state_of d.content now) turn answer) now.operator new.operator (failed c.in_err-ahead.field-0.0)
+    subst (AnswerStands (asks (state_of d.content now) turn answer) now.machine_room new.machine_room) (sym (err-is c.from_residual.result c.in_err-ahead.field-0.0 c.from_residual.ensures.1))
+    (stands-as (asks_behind now at.0 c.requires.unit.on unit) (asks (state_of d.content now) turn answer) now.machine_room new.machine_room (failed c.in_err-ahead.field-0.0)
     (asks-ahead d.told d.content d.may_leave d.moment d.left_since d.size now p.trusted turn c.args.run p.planned unit c.requires.unit answer c.requires.tells c.requires.unit.on at.0 at.1 at.2)
     (c.in_err-ahead.ensures.answered c.requires.unit.on at.0 at.1 at.2))
 
@@ -89,12 +89,15 @@ returns-clause-answered g c turn p =
     let now = c.args.self.now in
     let mid = c.look.new.self in
     let new = c.work_on.new.self in
-    let answer = restart_answer now.operator in
+    let answer = restart_answer now.machine_room.operator in
     let unit = c.args.unit in
     let at = at-step d.told d.content d.may_leave d.moment d.left_since d.size now p.trusted turn c.args.run p.planned unit c.requires.unit answer in
-    stands-as (asks_behind now at.0 c.requires.unit.on unit) (asks (state_of d.content now) turn answer) now.operator new.operator c.work_on.result
+    stands-as (asks_behind now at.0 c.requires.unit.on unit) (asks (state_of d.content now) turn answer) now.machine_room new.machine_room c.work_on.result
     (asks-ahead d.told d.content d.may_leave d.moment d.left_since d.size now p.trusted turn c.args.run p.planned unit c.requires.unit answer c.requires.tells c.requires.unit.on at.0 at.1 at.2)
-    (given-stands (asks_behind now at.0 c.requires.unit.on unit) now.operator new.operator (c.work_on.ensures.operator ∙ c.in_ok-ahead.ensures.answered c.requires.unit.on at.0 at.1 at.2) c.work_on.result c.work_on.ensures.of_disk)
+    (given-stands (asks_behind now at.0 c.requires.unit.on unit) now.machine_room new.machine_room (c.work_on.ensures.machine_room ∙ c.in_ok-ahead.ensures.answered c.requires.unit.on at.0 at.1 at.2) c.work_on.result c.work_on.ensures.of_disk)
 
 pub work_on-requires-clause-ahead : goal.work_on-requires-clause-ahead
-work_on-requires-clause-ahead g c κs within = (restart_answer c.args.self.now.operator, c.in_ok-ahead.ensures.ahead)
+work_on-requires-clause-ahead g c κs within = (restart_answer c.args.self.now.machine_room.operator, c.in_ok-ahead.ensures.ahead)
+
+pub returns-clause-mounts : goal.returns-clause-mounts
+returns-clause-mounts g c = ap (λ (room : MachineRoomView). room.mounts) c.work_on.ensures.machine_room ∙ c.look.ensures.mounts

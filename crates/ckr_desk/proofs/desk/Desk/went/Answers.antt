@@ -18,7 +18,7 @@ use Rattle.ckr_desk.proofs.desk.Desk.went.Goals as goal
 pub worked-reply-requires-clause-counted : goal.worked-reply-requires-clause-counted
 worked-reply-requires-clause-counted g c =
     let d = g.D.Disk in
-    let old : DeskView g.row.D.Denot = record { store = c.self.inside.store; jobs = c.self.inside.jobs; operator = c.self.inside.console } in
+    let old : DeskView g.row.D.Denot = record { store = c.self.inside.store; jobs = c.self.inside.jobs; machine_room = c.self.inside.machine_room } in
     let of = subst (λ (s : DeskView g.row.D.Denot). IsWorkedOut d.told d.content c.args.run s c.args.unit) (sym c.self.view_is) c.requires.unit in
     let out = out-of d.told d.content c.args.run old c.args.unit of (step_seen c.in-Some.on.now) (sym c.in-Some.ensures.step) in
     out.unit.counted
@@ -48,8 +48,8 @@ returns-in_err-done_unit-clause-turned g c turn answer p =
 pub returns-in_err-done_unit-clause-answered : goal.returns-in_err-done_unit-clause-answered
 returns-in_err-done_unit-clause-answered g c turn answer p =
     let now = c.args.self.now in
-    subst (AnswerStands (asks (state_of g.D.Disk.content now) turn answer) now.operator c.done_unit.new.self.operator) (sym (err-is c.from_residual.result c.in_err-done_unit.field-0.0 c.from_residual.ensures.1))
-    (fault-stands (asks (state_of g.D.Disk.content now) turn answer) now.operator c.done_unit.new.self.operator _ _ c.in_err-done_unit.field-0.0 c.in_err-done_unit.ensures.cause)
+    subst (AnswerStands (asks (state_of g.D.Disk.content now) turn answer) now.machine_room c.done_unit.new.self.machine_room) (sym (err-is c.from_residual.result c.in_err-done_unit.field-0.0 c.from_residual.ensures.1))
+    (fault-stands (asks (state_of g.D.Disk.content now) turn answer) now.machine_room c.done_unit.new.self.machine_room _ _ c.in_err-done_unit.field-0.0 c.in_err-done_unit.ensures.cause)
 
 pub returns-clause-answered : goal.returns-clause-answered
 returns-clause-answered g c turn answer p =
@@ -58,7 +58,7 @@ returns-clause-answered g c turn answer p =
     let mid = c.done_unit.new.self in
     let plan : Plan = Rest c.worked-reply.result in
     let unit = c.args.unit in
-    let old : DeskView g.row.D.Denot = record { store = c.self.inside.store; jobs = c.self.inside.jobs; operator = c.self.inside.console } in
+    let old : DeskView g.row.D.Denot = record { store = c.self.inside.store; jobs = c.self.inside.jobs; machine_room = c.self.inside.machine_room } in
     let of = subst (λ (s : DeskView g.row.D.Denot). IsWorkedOut d.told d.content c.args.run s unit) (sym c.self.view_is) c.requires.unit in
     let looked : IsLookedAhead d.told d.content c.args.run now unit answer plan =
     subst (λ (s : DeskView g.row.D.Denot). IsLookedAhead d.told d.content c.args.run s unit answer plan) c.self.view_is
@@ -67,9 +67,9 @@ returns-clause-answered g c turn answer p =
     let done = c.in_ok-done_unit.ensures.done answer plan looked in
     let laws = g.met.D.Disk g.world.𝓛 g.world.𝓜 g.world.𝓡 ((λ s x. x), (λ x. x), (λ x. x), λ x. x) in
     let stems = at_the_end d.moment d.may_leave d.left_since now.store.disk mid.store.disk (IsLeftByUnit d.content d.may_leave d.size c.args.run now) c.done_unit.ensures.left (laws.counts_now mid.store.disk) in
-    unasked (asks (state_of d.content now) turn answer) now.operator mid.operator
+    unasked (asks (state_of d.content now) turn answer) now.machine_room mid.machine_room
     (went-asks d.told d.content d.may_leave d.moment d.left_since d.size now p.trusted turn c.args.run p.planned answer mid plan done (c.in_ok-done_unit.ensures.events p.trusted.tells) c.worked-reply.ensures.told stems c.worked-reply.result refl)
-    c.done_unit.ensures.operator
+    c.done_unit.ensures.machine_room
 
 pub returns-clause-turned : goal.returns-clause-turned
 returns-clause-turned g c turn answer p =
@@ -78,7 +78,7 @@ returns-clause-turned g c turn answer p =
     let mid = c.done_unit.new.self in
     let plan : Plan = Rest c.worked-reply.result in
     let unit = c.args.unit in
-    let old : DeskView g.row.D.Denot = record { store = c.self.inside.store; jobs = c.self.inside.jobs; operator = c.self.inside.console } in
+    let old : DeskView g.row.D.Denot = record { store = c.self.inside.store; jobs = c.self.inside.jobs; machine_room = c.self.inside.machine_room } in
     let of = subst (λ (s : DeskView g.row.D.Denot). IsWorkedOut d.told d.content c.args.run s unit) (sym c.self.view_is) c.requires.unit in
     let looked : IsLookedAhead d.told d.content c.args.run now unit answer plan =
     subst (λ (s : DeskView g.row.D.Denot). IsLookedAhead d.told d.content c.args.run s unit answer plan) c.self.view_is

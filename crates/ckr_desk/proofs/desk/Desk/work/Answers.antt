@@ -1,4 +1,4 @@
-use Rattle.std.proofs.Common.{IfErr, sym, subst}
+use Rattle.std.proofs.Common.{◌∙◌, IfErr, ap, sym, subst}
 use Rattle.ckr_book.specs.Book.{room_of}
 use Rattle.ckr_desk_store.specs.State.{IsSound}
 use Rattle.ckr_desk_turn.specs.declared.plan.Plan.TheVariants.{Work}
@@ -14,7 +14,7 @@ use Rattle.ckr_desk.specs.Requests.{TellsNumbers}
 use Rattle.ckr_desk.specs.Soundness.{state_of}
 use Rattle.ckr_desk.specs.Turn.{AnswerStands, asks, event_of_turn, reply_of}
 use Rattle.ckr_console.specs.Answering.{restart_answer}
-use Rattle.ckr_desk.specs.State.{DeskView}
+use Rattle.ckr_desk.specs.State.{DeskView, MachineRoomView}
 use Rattle.ckr_desk.specs.Units.{HasTurned}
 use Rattle.ckr_desk.proofs.desk.Desk.work.Goals as goal
 
@@ -35,10 +35,10 @@ returns-in_err-unit-clause-turned g c turn p =
     let since = reads-left d.told d.content d.may_leave d.moment d.left_since d.size now new.store.disk e.any_moment e.only_reads in
     let sound = subst (λ (s : DeskView g.row.D.Denot). IsSound d.content d.may_leave d.size s.store) c.self.view_is c.layout-layout.ensures.sound in
     let later = planned-before d.told d.content d.may_leave d.moment d.left_since d.size now new is e.size since turn (Work c.args.run) p in
-    subst (HasTurned d.told d.content d.may_leave d.moment d.left_since d.size turn (restart_answer now.operator) now new) (sym (err-is c.from_residual.result c.in_err-unit.field-0.0 c.from_residual.ensures.1))
-    (turned-not d.told d.content d.may_leave d.moment d.left_since d.size now new is e.size since turn (restart_answer now.operator) p.trusted c.in_err-unit.field-0.0
+    subst (HasTurned d.told d.content d.may_leave d.moment d.left_since d.size turn (restart_answer now.machine_room.operator) now new) (sym (err-is c.from_residual.result c.in_err-unit.field-0.0 c.from_residual.ensures.1))
+    (turned-not d.told d.content d.may_leave d.moment d.left_since d.size now new is e.size since turn (restart_answer now.machine_room.operator) p.trusted c.in_err-unit.field-0.0
     (unworked-cause d.faults now new _ _ c.in_err-unit.field-0.0 c.in_err-unit.ensures.cause)
-    (unworked-takes d.faults now new (reply_of (state_of d.content now) turn (restart_answer now.operator)) (event_of_turn (state_of d.content now) turn (restart_answer now.operator)) (asks (state_of d.content now) turn (restart_answer now.operator)) c.in_err-unit.field-0.0 c.in_err-unit.ensures.cause))
+    (unworked-takes d.faults now new (reply_of (state_of d.content now) turn (restart_answer now.machine_room.operator)) (event_of_turn (state_of d.content now) turn (restart_answer now.machine_room.operator)) (asks (state_of d.content now) turn (restart_answer now.machine_room.operator)) c.in_err-unit.field-0.0 c.in_err-unit.ensures.cause))
 
 pub returns-in-Went-clause-turned : goal.returns-in-Went-clause-turned
 returns-in-Went-clause-turned g c turn p =
@@ -55,8 +55,8 @@ returns-in-Went-clause-turned g c turn p =
     }
     in
     let since = reads-left d.told d.content d.may_leave d.moment d.left_since d.size now mid.store.disk e.any_moment e.only_reads in
-    turned-before d.told d.content d.may_leave d.moment d.left_since d.size now mid is e.size since turn (restart_answer now.operator) p.trusted c.went.new.self c.went.result
-    (c.went.ensures.turned turn (restart_answer now.operator) (planned-before d.told d.content d.may_leave d.moment d.left_since d.size now mid is e.size since turn (Work c.args.run) p))
+    turned-before d.told d.content d.may_leave d.moment d.left_since d.size now mid is e.size since turn (restart_answer now.machine_room.operator) p.trusted c.went.new.self c.went.result
+    (c.went.ensures.turned turn (restart_answer now.machine_room.operator) (planned-before d.told d.content d.may_leave d.moment d.left_since d.size now mid is e.size since turn (Work c.args.run) p))
 
 pub returns-in_default-clause-turned : goal.returns-in_default-clause-turned
 returns-in_default-clause-turned g c turn p =
@@ -73,8 +73,8 @@ returns-in_default-clause-turned g c turn p =
     }
     in
     let since = reads-left d.told d.content d.may_leave d.moment d.left_since d.size now mid.store.disk e.any_moment e.only_reads in
-    turned-before d.told d.content d.may_leave d.moment d.left_since d.size now mid is e.size since turn (restart_answer now.operator) p.trusted c.tell_unit.new.self c.tell_unit.result
-    (subst (λ o. HasTurned d.told d.content d.may_leave d.moment d.left_since d.size turn (restart_answer o) mid c.tell_unit.new.self c.tell_unit.result) e.operator
+    turned-before d.told d.content d.may_leave d.moment d.left_since d.size now mid is e.size since turn (restart_answer now.machine_room.operator) p.trusted c.tell_unit.new.self c.tell_unit.result
+    (subst (λ (o : MachineRoomView). HasTurned d.told d.content d.may_leave d.moment d.left_since d.size turn (restart_answer o.operator) mid c.tell_unit.new.self c.tell_unit.result) e.machine_room
     (c.tell_unit.ensures.turned turn (planned-before d.told d.content d.may_leave d.moment d.left_since d.size now mid is e.size since turn (Work c.args.run) p)))
 
 pub returns-in_err-unit-clause-full : goal.returns-in_err-unit-clause-full
@@ -94,8 +94,8 @@ returns-in_err-unit-clause-answered g c turn p =
     let d = g.D.Disk in
     let now = c.args.self.now in
     let new = c.work_out.new.self in
-    subst (AnswerStands (asks (state_of d.content now) turn (restart_answer now.operator)) now.operator new.operator) (sym (err-is c.from_residual.result c.in_err-unit.field-0.0 c.from_residual.ensures.1))
-    (unworked-stands d.faults now new (asks (state_of d.content now) turn (restart_answer now.operator)) c.in_err-unit.field-0.0 c.in_err-unit.ensures.cause)
+    subst (AnswerStands (asks (state_of d.content now) turn (restart_answer now.machine_room.operator)) now.machine_room new.machine_room) (sym (err-is c.from_residual.result c.in_err-unit.field-0.0 c.from_residual.ensures.1))
+    (unworked-stands d.faults now new (asks (state_of d.content now) turn (restart_answer now.machine_room.operator)) c.in_err-unit.field-0.0 c.in_err-unit.ensures.cause)
 
 pub returns-in-Went-clause-answered : goal.returns-in-Went-clause-answered
 returns-in-Went-clause-answered g c turn p =
@@ -113,7 +113,7 @@ returns-in-Went-clause-answered g c turn p =
     in
     let since = reads-left d.told d.content d.may_leave d.moment d.left_since d.size now mid.store.disk e.any_moment e.only_reads in
     let later = planned-before d.told d.content d.may_leave d.moment d.left_since d.size now mid is e.size since turn (Work c.args.run) p in
-    stands-before d.told d.content d.may_leave now mid c.went.new.self is e.operator turn c.went.result (c.went.ensures.answered turn (restart_answer mid.operator) later)
+    stands-before d.told d.content d.may_leave now mid c.went.new.self is e.machine_room turn c.went.result (c.went.ensures.answered turn (restart_answer mid.machine_room.operator) later)
 
 pub returns-in_default-clause-answered : goal.returns-in_default-clause-answered
 returns-in_default-clause-answered g c turn p =
@@ -131,4 +131,13 @@ returns-in_default-clause-answered g c turn p =
     in
     let since = reads-left d.told d.content d.may_leave d.moment d.left_since d.size now mid.store.disk e.any_moment e.only_reads in
     let later = planned-before d.told d.content d.may_leave d.moment d.left_since d.size now mid is e.size since turn (Work c.args.run) p in
-    stands-before d.told d.content d.may_leave now mid c.tell_unit.new.self is e.operator turn c.tell_unit.result (c.tell_unit.ensures.answered turn later)
+    stands-before d.told d.content d.may_leave now mid c.tell_unit.new.self is e.machine_room turn c.tell_unit.result (c.tell_unit.ensures.answered turn later)
+
+pub returns-in_err-unit-clause-mounts : goal.returns-in_err-unit-clause-mounts
+returns-in_err-unit-clause-mounts g c = ap (λ (room : MachineRoomView). room.mounts) c.work_out.ensures.machine_room
+
+pub returns-in-Went-clause-mounts : goal.returns-in-Went-clause-mounts
+returns-in-Went-clause-mounts g c = ap (λ (room : MachineRoomView). room.mounts) (c.went.ensures.machine_room ∙ c.work_out.ensures.machine_room)
+
+pub returns-in_default-clause-mounts : goal.returns-in_default-clause-mounts
+returns-in_default-clause-mounts g c = c.tell_unit.ensures.mounts ∙ ap (λ (room : MachineRoomView). room.mounts) c.work_out.ensures.machine_room

@@ -1,4 +1,4 @@
-use Rattle.std.proofs.Common.{◌∙◌, sym, subst, ap, Result, Err}
+use Rattle.std.proofs.Common.{◌≡◌, ◌∙◌, sym, subst, ap, false, OnOk, Result, Err}
 use Rattle.ckr_book.specs.Book.{room_of}
 use Rattle.ckr_desk_memory.specs.OwnSteps.{PlanFollows}
 use Rattle.ckr_outside.specs.Moments.{at_the_end}
@@ -12,6 +12,8 @@ use Rattle.ckr_desk.proofs.Units.Results.{done-after, done-cause, done-fits, don
 use Rattle.ckr_desk.proofs.Units.Preparation.{err-is}
 use Rattle.ckr_desk.proofs.Turns.Plans.{behind-takes, go-of-disk}
 use Rattle.ckr_desk.proofs.Turns.Preparation.{came-of-disk}
+use Rattle.ckr_desk.proofs.Units.Questions.{went-rests}
+use Rattle.ckr_desk.proofs.Units.Turn.{went-asks}
 use Rattle.ckr_desk.proofs.Units.Readiness.{ready-behind, settled-so, unit-knows, unit-leaves}
 use Rattle.ckr_desk.specs.Requests.{came_by, spelled}
 use Rattle.ckr_desk.specs.Soundness.{KeepsWithin, state_of}
@@ -94,6 +96,22 @@ returns-in-Ok-clause-turned g c turn answer p ahead =
       takes = tt;
       kept = done-kept d.told d.content d.may_leave d.moment d.left_since d.size now p.trusted turn c.args.run p.planned answer mid plan done events shape stems c.done_unit.ensures.size new c.done_unit.ensures.left (c.go_on.ensures.left p.trusted.tells);
     }
+
+pub returns-in-Ok-clause-unasked : goal.returns-in-Ok-clause-unasked
+returns-in-Ok-clause-unasked g c turn answer p ahead on_it =
+    let d = g.D.Disk in
+    let now = c.args.self.now in
+    let mid = c.done_unit.new.self in
+    let plan = c.args.ahead.plan in
+    let laws = g.met.D.Disk g.world.𝓛 g.world.𝓜 g.world.𝓡 ((λ s x. x), (λ x. x), (λ x. x), λ x. x) in
+    let stems = at_the_end d.moment d.may_leave d.left_since now.store.disk mid.store.disk (IsLeftByUnit d.content d.may_leave d.size c.args.run now) c.done_unit.ensures.left (laws.counts_now mid.store.disk) in
+    let rests = went-rests d.told d.content d.may_leave d.moment d.left_since d.size now p.trusted turn c.args.run p.planned c.args.ahead.unit ahead.looked.of answer on_it plan ahead.looked.planned in
+    went-asks d.told d.content d.may_leave d.moment d.left_since d.size now p.trusted turn c.args.run p.planned answer mid plan (c.in_ok-done_unit.ensures.done answer plan ahead.looked)
+    (c.in_ok-done_unit.ensures.events p.trusted.tells) ahead.looked.spelled stems rests.0 rests.1
+
+pub returns-in_err-done_unit-clause-unasked : goal.returns-in_err-done_unit-clause-unasked
+returns-in_err-done_unit-clause-unasked g c turn answer p ahead on_it =
+    subst (λ r. OnOk r (asks (state_of g.D.Disk.content c.args.self.now) turn answer ≡ false)) (sym (err-is c.from_residual.result c.in_err-done_unit.field-0.0 c.from_residual.ensures.1)) tt
 
 abbrev failed : DeskError → Result Reply DeskError
 failed error = Err error

@@ -33,8 +33,8 @@ invariant_of-self-2 g c =
 pub returns-clause-written : goal.returns-clause-written
 returns-clause-written g c =
     let d = g.D.Disk in
-    let old : DeskView g.row.D.Denot = record { store = c.self.inside.store; jobs = c.self.inside.jobs; operator = c.self.inside.console } in
-    let new : DeskView g.row.D.Denot = record { store = c.write_entry.new.self; jobs = c.self.inside.jobs; operator = c.self.inside.console } in
+    let old : DeskView g.row.D.Denot = record { store = c.self.inside.store; jobs = c.self.inside.jobs; machine_room = c.self.inside.machine_room } in
+    let new : DeskView g.row.D.Denot = record { store = c.write_entry.new.self; jobs = c.self.inside.jobs; machine_room = c.self.inside.machine_room } in
     let made = c.args.made.now in
     subst (λ (s : DeskView g.row.D.Denot). HasWrittenEntry d.told d.content d.may_leave d.moment d.left_since made s new) c.self.view_is
     (record {
@@ -50,7 +50,7 @@ returns-clause-written g c =
 pub returns-in_err-write_entry-clause-left : goal.returns-in_err-write_entry-clause-left
 returns-in_err-write_entry-clause-left g c =
     let d = g.D.Disk in
-    let old : DeskView g.row.D.Denot = record { store = c.self.inside.store; jobs = c.self.inside.jobs; operator = c.self.inside.console } in
+    let old : DeskView g.row.D.Denot = record { store = c.self.inside.store; jobs = c.self.inside.jobs; machine_room = c.self.inside.machine_room } in
     let made = c.args.made.now in
     rw (← c.self.view_is)
     (both_since d.moment d.left_since old.store.disk c.write_entry.new.self.disk (OpensSame d.content d.size old)
@@ -62,7 +62,7 @@ returns-in_err-write_entry-clause-left g c =
 pub returns-clause-left : goal.returns-clause-left
 returns-clause-left g c =
     let d = g.D.Disk in
-    let old : DeskView g.row.D.Denot = record { store = c.self.inside.store; jobs = c.self.inside.jobs; operator = c.self.inside.console } in
+    let old : DeskView g.row.D.Denot = record { store = c.self.inside.store; jobs = c.self.inside.jobs; machine_room = c.self.inside.machine_room } in
     let made = c.args.made.now in
     rw (← c.self.view_is)
     (both_since d.moment d.left_since old.store.disk c.write_entry.new.self.disk (OpensSame d.content d.size old)

@@ -3,7 +3,7 @@ use Rattle.ckr_desk.proofs.Calls.FullBooks.{call-fits, call-full}
 use Rattle.ckr_desk.proofs.Calls.OneEvent.{call-few}
 use Rattle.ckr_desk.specs.Requests.{call_fits, event_in, spelled}
 use Rattle.ckr_desk.specs.Soundness.{state_of}
-use Rattle.ckr_desk.specs.State.{disk_of, operator_of, tables_in_memory}
+use Rattle.ckr_desk.specs.State.{disk_of, machine_room_of, tables_in_memory}
 use Rattle.ckr_service.specs.declared.stop.Halt.TheVariants as Halts
 use Rattle.ckr_service.specs.Calls.{call_for}
 use Rattle.ckr_service.specs.Service.{ChangeHalt, staffed_by, staffed_of}
@@ -106,7 +106,7 @@ returns-in-Ok-true-clause-after g c holds =
     let e = c.in-Ok-true.ensures in
     let old = c.args.self.now in
     on_ok c.tell_changed.result _
-    (staffed-behind (staffed_of d.content old) (staffed_by d.content c.change_job.new.desk old.roster) (call_for c.args.change (tables_in_memory old.desk) c.args.job) (e.comes holds).after e.operator refl)
+    (staffed-behind (staffed_of d.content old) (staffed_by d.content c.change_job.new.desk old.roster) (call_for c.args.change (tables_in_memory old.desk) c.args.job) (e.comes holds).after e.machine_room refl)
 
 pub returns-in-Ok-true-clause-trusted : goal.returns-in-Ok-true-clause-trusted
 returns-in-Ok-true-clause-trusted g c = on_ok c.tell_changed.result _ (λ holds. (c.in-Ok-true.ensures.comes holds).trusted)
@@ -124,7 +124,7 @@ returns-in-Ok-false-clause-after g c holds =
     let old = c.args.self.now in
     on_ok c.refuse_line.result _
     (staffed-behind (staffed_of d.content old) (staffed_of d.content c.refuse_line.new.self) (call_for c.args.change (tables_in_memory old.desk) c.args.job)
-    (ap (state_of d.content) c.refuse_line.ensures.desk ∙ (e.comes holds).after) (ap operator_of c.refuse_line.ensures.desk ∙ e.operator) c.refuse_line.ensures.roster)
+    (ap (state_of d.content) c.refuse_line.ensures.desk ∙ (e.comes holds).after) (ap machine_room_of c.refuse_line.ensures.desk ∙ e.machine_room) c.refuse_line.ensures.roster)
 
 pub returns-in-Ok-false-clause-trusted : goal.returns-in-Ok-false-clause-trusted
 returns-in-Ok-false-clause-trusted g c = on_ok c.refuse_line.result _ (λ holds. rw c.refuse_line.ensures.desk (c.in-Ok-false.ensures.comes holds).trusted)

@@ -1,7 +1,7 @@
 use Rattle.std.proofs.Common.{[], arith, ap, refl, subst, ◌∙◌}
 use Rattle.ckr_desk.specs.NoChange.{StaysBy}
 use Rattle.ckr_desk.specs.Soundness.{state_of}
-use Rattle.ckr_desk.specs.State.{disk_of, operator_of}
+use Rattle.ckr_desk.specs.State.{disk_of, machine_room_of}
 use Rattle.ckr_service.specs.declared.stop.Halt.TheVariants as Halts
 use Rattle.ckr_service.specs.Service.{ListHalt, staffed_by, staffed_of}
 use Rattle.ckr_service.proofs.Service.Staff.{staffed-same}
@@ -100,7 +100,7 @@ returns-in-Ok-Some-clause-state g c holds =
     let d = g.D.Disk in
     let e = c.in-Ok-Some.ensures in
     let old = c.args.self.now in
-    on_ok c.tell.result _ (staffed-same (staffed_by d.content c.records.new.self old.roster) (staffed_of d.content old) (e.comes holds).after e.operator refl)
+    on_ok c.tell.result _ (staffed-same (staffed_by d.content c.records.new.self old.roster) (staffed_of d.content old) (e.comes holds).after e.machine_room refl)
 
 pub returns-in-Ok-Some-clause-trusted : goal.returns-in-Ok-Some-clause-trusted
 returns-in-Ok-Some-clause-trusted g c = on_ok c.tell.result _ (λ holds. (c.in-Ok-Some.ensures.comes holds).trusted)
@@ -113,7 +113,7 @@ returns-in-Ok-None-clause-state g c holds =
     let new = c.refuse_line.new.self in
     on_ok c.refuse_line.result _
     (staffed-same (staffed_of d.content new) (staffed_of d.content old)
-    (ap (state_of d.content) c.refuse_line.ensures.desk ∙ (e.comes holds).after) (ap operator_of c.refuse_line.ensures.desk ∙ e.operator) c.refuse_line.ensures.roster)
+    (ap (state_of d.content) c.refuse_line.ensures.desk ∙ (e.comes holds).after) (ap machine_room_of c.refuse_line.ensures.desk ∙ e.machine_room) c.refuse_line.ensures.roster)
 
 pub returns-in-Ok-None-clause-trusted : goal.returns-in-Ok-None-clause-trusted
 returns-in-Ok-None-clause-trusted g c = on_ok c.refuse_line.result _ (λ holds. rw c.refuse_line.ensures.desk (c.in-Ok-None.ensures.comes holds).trusted)

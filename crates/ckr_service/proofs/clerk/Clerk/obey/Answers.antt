@@ -7,7 +7,7 @@ use Rattle.ckr_desk.specs.Model.Layout.{Layout}
 use Rattle.ckr_service.specs.declared.orders.Order.TheVariants.{Turns, ListOf, Sets, Jobs, Change, Shift, Unknown}
 use Rattle.ckr_service.specs.Orders.{order_of}
 use Rattle.ckr_desk.specs.Model.OpenImages.{event_records}
-use Rattle.ckr_desk.specs.State.{DeskView, disk_of, layout_of, operator_of, tables_in_memory}
+use Rattle.ckr_desk.specs.State.{DeskView, disk_of, layout_of, machine_room_of, tables_in_memory}
 use Rattle.ckr_cards.specs.Session.Handed.{Order as Command}
 use Rattle.ckr_service.specs.Calls.{JobsListed, Turned, call_for, change_answer, is_refusal, lines_of, may_change, turns}
 use Rattle.ckr_service.specs.Events.{change_event}
@@ -17,7 +17,7 @@ use Rattle.ckr_service.specs.Service.{ChangeHalt, HaltsSo, HaltsTelling, ListHal
 use Rattle.ckr_service.specs.Staff.{AttendedDesk, StaffedDesk, tables_at, with_attended, with_call}
 use Rattle.ckr_service.specs.Texts.{answer_text}
 use Rattle.ckr_service.proofs.Service.Answers.{comes_none, order_served_on, order_kept, tables_in, turns_halted_so, turns_text_to, list_halted_so, change_halted_so}
-use Rattle.ckr_service.proofs.Service.Staff.{goes-with_operator, staffed-same, trusted-with_operator}
+use Rattle.ckr_service.proofs.Service.Staff.{goes-with_room, staffed-same, trusted-with_room}
 use Rattle.ckr_service.proofs.Service.Tallies.{change-uncounted, list-uncounted, shift-uncounted}
 use Rattle.ckr_service.proofs.Cards.{on_ok}
 use Rattle.ckr_service.proofs.Calls.Halts.{halts_quiet_on, memory_here}
@@ -145,7 +145,7 @@ returns-in-Unknown-clause-serves g c holds =
     let from = telling c.args.lines.now (g.K.Sink.written c.args.sink.now) (g.K.Sink.faults c.args.sink.now) in
     tells_quiet c.refuse_line.result (Serves (seen d.content old) (seen d.content c.refuse_line.new.self) (Command c.args.number line ∷ []) from.waits) from (quiet from c.refuse_line.new.out) c.requires.fresh refl
     (order_served_on c.refuse_line.result (seen d.content old) (seen d.content c.refuse_line.new.self) c.args.number line Unknown _ _ (sym c.in-Unknown.is ∙ reads)
-    (on_ok c.refuse_line.result _ refl) (on_ok c.refuse_line.result _ (staffed-same (staffed_of d.content c.refuse_line.new.self) (staffed_of d.content old) (ap (state_of d.content) e.desk) (ap operator_of e.desk) e.roster))
+    (on_ok c.refuse_line.result _ refl) (on_ok c.refuse_line.result _ (staffed-same (staffed_of d.content c.refuse_line.new.self) (staffed_of d.content old) (ap (state_of d.content) e.desk) (ap machine_room_of e.desk) e.roster))
     (on_ok c.refuse_line.result _ (e.refused ∙ sym (or-true old.refused))) (on_ok c.refuse_line.result _ e.tally)
     (on_ok c.refuse_line.result _ (same_events d.content d.moment d.left_since d.size old.desk c.refuse_line.new.self.desk e.desk)) e.text)
 
@@ -231,11 +231,11 @@ pub returns-in-Shift-clause-halt : goal.returns-in-Shift-clause-halt
 returns-in-Shift-clause-halt g c holds =
     let d = g.D.Disk in
     let old = c.args.self.now.desk in
-    let behind = record old { operator = operator_of c.shift.new.self.desk } in
+    let behind = record old { machine_room = machine_room_of c.shift.new.self.desk } in
     let from = telling c.args.lines.now (g.K.Sink.written c.args.sink.now) (g.K.Sink.faults c.args.sink.now) in
     halts_quiet_on d.content d.moment d.left_since d.size c.shift.result c.args.self.now (disk_of c.shift.new.self.desk) (Command c.args.number c.args.text.now ∷ []) from (quiet from c.shift.new.out) c.requires.fresh refl
     (memory_here d.content d.moment d.left_since d.size c.shift.result old behind _ [] (λ halt. HaltsSo halt (staffed_of d.content c.args.self.now) (Command c.args.number c.args.text.now ∷ []) c.args.lines.now.text c.shift.new.out)
-    c.shift.ensures.desk (goes-with_operator old behind.operator d.content d.moment d.left_since d.size (c.layout-layout.ensures.kept c.requires.is_open holds)) (sym (append-nil _)) (comes_none _) c.shift.ensures.halt)
+    c.shift.ensures.desk (goes-with_room old behind.machine_room d.content d.moment d.left_since d.size (c.layout-layout.ensures.kept c.requires.is_open holds)) (sym (append-nil _)) (comes_none _) c.shift.ensures.halt)
 
 -- ---- what a stop leaves
 
@@ -243,16 +243,16 @@ pub returns-in-Shift-clause-goes : goal.returns-in-Shift-clause-goes
 returns-in-Shift-clause-goes g c holds =
     let d = g.D.Disk in
     let old = c.args.self.now.desk in
-    let operator = operator_of c.shift.new.self.desk in
-    goes_on_to d.content d.moment d.left_since d.size c.shift.result old (record old { operator = operator }) _ c.shift.ensures.desk
-    (goes-with_operator old operator d.content d.moment d.left_since d.size (c.layout-layout.ensures.kept c.requires.is_open holds))
+    let room = machine_room_of c.shift.new.self.desk in
+    goes_on_to d.content d.moment d.left_since d.size c.shift.result old (record old { machine_room = room }) _ c.shift.ensures.desk
+    (goes-with_room old room d.content d.moment d.left_since d.size (c.layout-layout.ensures.kept c.requires.is_open holds))
 
 pub returns-in-Shift-clause-trusted : goal.returns-in-Shift-clause-trusted
 returns-in-Shift-clause-trusted g c =
     let d = g.D.Disk in
     let old = c.args.self.now.desk in
     on_ok c.shift.result _
-    (λ holds. subst (λ (w : DeskView _). IsTrusted d.told d.content d.may_leave w) (sym c.shift.ensures.desk) (trusted-with_operator old (operator_of c.shift.new.self.desk) d.told d.content d.may_leave holds))
+    (λ holds. subst (λ (w : DeskView _). IsTrusted d.told d.content d.may_leave w) (sym c.shift.ensures.desk) (trusted-with_room old (machine_room_of c.shift.new.self.desk) d.told d.content d.may_leave holds))
 
 pub returns-in-Unknown-clause-goes : goal.returns-in-Unknown-clause-goes
 returns-in-Unknown-clause-goes g c holds =

@@ -9,7 +9,7 @@ use Rattle.ckr_service.specs.declared.stop.Halt.TheVariants as Halts
 use Rattle.ckr_desk.specs.Requests.{behind_call, call_fits, event_in, spelled}
 use Rattle.ckr_desk.specs.Soundness.{IsTrusted, state_of}
 use Rattle.ckr_desk.specs.Submit.{submit_call}
-use Rattle.ckr_desk.specs.State.{disk_of, layout_of, operator_of, tables_in_memory}
+use Rattle.ckr_desk.specs.State.{disk_of, layout_of, machine_room_of, tables_in_memory}
 use Rattle.ckr_service.specs.Calls.{deck_fits}
 use Rattle.ckr_service.specs.Events.{deck_event, events_told, request_events}
 use Rattle.ckr_service.specs.Service.{ComesTo, HaltsSo, seen, staffed_by, staffed_of}
@@ -32,7 +32,7 @@ returns-in-Ok-Job-clause-serves g c holds =
     deck_accepted (seen d.content old) (seen d.content c.accept.new.self) cards c.in-Ok-Job.field-0 (tables_in_memory old.desk) (tables_in_memory c.submit.new.self)
     (ap (staffed_of d.content) c.accept.ensures.clerk
     ∙ staffed-behind s (staffed_by d.content c.submit.new.self old.roster) (submit_call (tables_at s) cards)
-    ((e.comes holds).after ∙ ap (λ (t : TablesModel). behind_call s.attended.state (submit_call t cards)) there) e.operator refl)
+    ((e.comes holds).after ∙ ap (λ (t : TablesModel). behind_call s.attended.state (submit_call t cards)) there) e.machine_room refl)
     there
     (tables_in d.told d.content d.may_leave c.submit.new.self (e.comes holds).trusted ∙ sym (ap (λ (o : _). tables_at (staffed_of d.content o)) c.accept.ensures.clerk))
     e.answer
@@ -53,7 +53,7 @@ returns-in-Ok-Refused-clause-serves g c holds =
     deck_refused (seen d.content old) (seen d.content c.refuse_deck.new.self) cards c.in-Ok-Refused.field-0 (tables_in_memory old.desk) (tables_in_memory c.submit.new.self)
     (staffed-behind s (staffed_of d.content c.refuse_deck.new.self) (submit_call (tables_at s) cards)
     (ap (state_of d.content) c.refuse_deck.ensures.desk ∙ (e.comes holds).after ∙ ap (λ (t : TablesModel). behind_call s.attended.state (submit_call t cards)) there)
-    (ap operator_of c.refuse_deck.ensures.desk ∙ e.operator) c.refuse_deck.ensures.roster)
+    (ap machine_room_of c.refuse_deck.ensures.desk ∙ e.machine_room) c.refuse_deck.ensures.roster)
     there
     (tables_in d.told d.content d.may_leave c.submit.new.self (e.comes holds).trusted ∙ sym (ap (λ (w : _). (state_of d.content w).desk.office.tables) c.refuse_deck.ensures.desk))
     e.answer

@@ -1,7 +1,7 @@
 -- Which unit a volume gets, and what comes of mounting it there.
 use Rattle.std.proofs.Common.{◌≡◌, ℕ, ◌+◌, ◌<◌, ◌≤◌, Bool, true, false, not, ◌&&◌, ◌||◌, ◌==◌, ◌∙◌, List, [], ◌∷◌, Option, None, Some, arith, ap, cond, get_or, length, refl, set, subst, sym}
 use Rattle.std.specs.Prelude.{is_none}
-use Rattle.std.specs.List.{count_by, list_all, list_any, position, position_or_len}
+use Rattle.std.specs.List.{count_by, list_any, position, position_or_len}
 use Rattle.std.proofs.Math.Seq.{take-set-lt}
 use Rattle.std.proofs.lemmas.Bool.{and_from, or_left, or_right}
 use Rattle.std.proofs.lemmas.List.{get_or-set_same, length-set, length-take}
@@ -16,6 +16,7 @@ use Rattle.ckr_queue.specs.declared.units.Need.{Need}
 use Rattle.ckr_queue.specs.Units.{AreAllMounted, AreUnits, ArePinnedAndFit, IsGivenUnit, IsMountedBeside, AreStillMounted, UnitTable, after_mounts, is_among, is_carried, is_free, is_mounted, is_pinned, is_used, may_give_way, mounted_on, need_of, or_else, unit_for_of, units_in, with_volume}
 use Rattle.ckr_queue.proofs.Counts.{any-count, count-any, count-apart, count-at-most, count-cons, count-cover, count-never, count-none, count-set, one_if, one_if-at-most, one_if-cover, position-nowhere}
 use Rattle.ckr_queue.proofs.Pins.{among-pinned, pinned-among}
+use Rattle.ckr_queue.proofs.UseCounts.{all-among}
 
 -- ---- a volume that is on no unit gets one
 
@@ -310,10 +311,6 @@ module _ (volumes : List ℕ) where
         need = more.need ∙ one.need;
         units = more.units;
       }
-
-all-among : (p : ℕ → Bool) (volumes : List ℕ) → ((volume : ℕ) → is_among volumes volume ≡ true → p volume ≡ true) → list_all p volumes ≡ true
-all-among p [] each = refl
-all-among p (volume ∷ rest) each = and_from _ _ (each volume (or_left _ _ (equal-itself volume))) (all-among p rest (λ other is_one. each other (or_right (volume == other) _ is_one)))
 
 pub all-mounted : (t : UnitTable) (volumes : List ℕ) → AreUnits t → ArePinnedAndFit t volumes → AreAllMounted volumes t (after_mounts volumes t)
 all-mounted t volumes units fit =

@@ -1,0 +1,36 @@
+-- What the machine room has, and what becomes of the volumes that a step wants.
+use Rattle.std.specs.Prelude.{◌≡◌, ◌≤◌, ℕ, nat_lt, Bool, IsTrue, List, [], ◌∷◌, length}
+use Rattle.std.specs.List.{list_all}
+use Rattle.ckr_desk_turn.specs.Mounts.{Attempt, asked_for, mounted_all, not_taken}
+use Rattle.ckr_desk_turn.specs.declared.taking.Taking.{Taking}
+use Rattle.ckr_desk_turn.specs.declared.taking.Taking.TheVariants.{Taken, Exceeds, Lacks, Refused, Awaited}
+use Rattle.ckr_queue.specs.Mounts.{units_with}
+use Rattle.ckr_queue.specs.Units.{are_mounted, need_of}
+use Rattle.ckr_volumes.specs.declared.layout.Layout.{Layout}
+use Rattle.ckr_desk.specs.State.{MachineRoomView}
+
+-- the machine room behind the questions for a step's volumes; nothing is taken yet
+abbrev pub behind_attempt : Attempt → MachineRoomView
+behind_attempt attempt = record { operator = attempt.operator; mounts = attempt.mounts }
+
+-- all of these are volumes of the layout
+abbrev pub are_there : Layout → List ℕ → Bool
+are_there layout volumes = list_all (λ volume. nat_lt volume (length layout.volumes.items)) volumes
+
+-- the volumes need no more units than there are, and no more than are free
+pub record FitsUnits (layout : Layout) (volumes : List ℕ) (room : MachineRoomView) : Type 0 where
+  pub units : length volumes ≤ layout.units
+  pub free : (need_of (units_with [] room.mounts) volumes).need ≤ (need_of (units_with [] room.mounts) volumes).free
+
+-- nobody is to be asked: this has become of the volumes, and the machine room is as it was; where they are taken all of them are on units
+pub record NeedsNoQuestion (layout : Layout) (volumes : List ℕ) (room : MachineRoomView) (taking : Taking) : Type 0 where
+  pub taking_is : (asked_for layout volumes room.mounts room.operator).taking ≡ taking
+  pub same : behind_attempt (asked_for layout volumes room.mounts room.operator) ≡ room
+  pub mounted : taking ≡ Taken → IsTrue (are_mounted (units_with [] room.mounts) volumes)
+
+-- One volume was asked for, and those behind it are to be: where it is on a unit now they are asked for from there on, and else nothing more is asked.
+abbrev pub IsAskedFor : Layout → List ℕ → ℕ → List ℕ → MachineRoomView → MachineRoomView → Taking → Type 0
+IsAskedFor layout volumes volume rest old new Taken =
+    mounted_all layout volumes (volume ∷ rest) old.mounts old.operator ≡ mounted_all layout volumes rest new.mounts new.operator
+IsAskedFor layout volumes volume rest old new taking =
+    mounted_all layout volumes (volume ∷ rest) old.mounts old.operator ≡ not_taken taking new.mounts new.operator
