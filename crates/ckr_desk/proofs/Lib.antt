@@ -8,3 +8,4 @@ pub mod Checkpoints
 pub mod Trust
 pub mod Continuations
 pub mod MachineRooms
+pub mod Attendances

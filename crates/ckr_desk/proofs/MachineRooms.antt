@@ -4,6 +4,10 @@
 -- asked-            what is asked for one volume comes to
 -- unasked-          nobody is to be asked
 -- so_far-           the volumes mounted one after another
+-- asked-comes       what becomes of volumes that are asked for: all are mounted, one of them is refused, or an answer is awaited
+-- asked-takes       they are taken where all are mounted
+-- asked-held        what steps hold stays
+-- wanted-dd         one of them is that of a DD
 use Rattle.std.proofs.Common.{◌≡◌, ◌⊎◌, inl, inr, ℕ, zero, suc, ◌+◌, ◌<◌, ◌≤◌, ◌==◌, nat_lt, Bool, false, true, ◌∙◌, List, [], ◌∷◌, Option, None, Some, arith, ap, cond, drop, filter, get_or, length, refl, subst, sym, take}
 use Rattle.std.specs.Prelude.{is_none, nat_le}
 use Rattle.std.specs.List.{list_all, position, range_with_len}
@@ -14,7 +18,7 @@ use Rattle.std.proofs.lemmas.List.{drop_all, drop_more, take_all}
 use Rattle.std.proofs.lemmas.Grind.{get_or_default_zero}
 use Rattle.std.proofs.lemmas.List.Folds.{list_all_more, list_any_at}
 use Rattle.ckr_base.proofs.Bools.{and-first, and-second, bool-cases, false-not-true, or-cases}
-use Rattle.ckr_base.proofs.Numbers.{equal-itself, nat_le-true}
+use Rattle.ckr_base.proofs.Numbers.{equal-itself, equal-true, nat_le-true}
 use Rattle.ckr_base.proofs.Sequences.{all-get, get-from}
 use Rattle.ckr_console.specs.Answering.{Answering, answer_in_office, asked}
 use Rattle.ckr_console.specs.declared.question.Answer.{Answer}
@@ -222,3 +226,96 @@ module _ (layout : Layout) (volumes : List ℕ) (first : MachineRoomView) where
 
       pub so_far-mounted : are_mounted (units_with [] now.mounts) volumes ≡ true
       so_far-mounted = subst (λ front. list_all (is_mounted (units_with [] now.mounts)) front ≡ true) (take_all count volumes beyond) so_far.mounted
+
+-- ---- what becomes of them
+
+-- all are mounted, one of them is refused, or an answer is awaited
+abbrev pub MayCome : List ℕ → Taking → Type 0
+MayCome volumes Taken = Unit {0}
+MayCome volumes (Exceeds need) = ⊥
+MayCome volumes (Lacks need free) = ⊥
+MayCome volumes (Refused volume) = is_among volumes volume ≡ true
+MayCome volumes Awaited = Unit {0}
+
+-- the volumes are taken where all are mounted
+abbrev pub takes_by : List ℕ → Taking → Option (List ℕ)
+takes_by volumes Taken = Some volumes
+takes_by volumes _ = None
+
+module _ (layout : Layout) (volumes : List ℕ) where
+  -- by the answer for the first one, where this holds of the others
+  module _ (P : Attempt → Type 0) (first : ℕ) (others : List ℕ) (mounts : MountTable) (operator : Option Answering)
+      (refused : P (not_taken (Refused first) mounts (asked operator))) (awaited : P (not_taken Awaited mounts (asked operator)))
+      (later : (table : MountTable) → table.held ≡ mounts.held → (office : Option Answering) → P (mounted_all layout volumes others table office)) where
+    answer-cases : (unit : ℕ) (answer : Answer) → P (by_answer layout volumes first others mounts operator unit answer)
+    answer-cases unit Yes = later (with_mount first unit mounts) refl (asked operator)
+    answer-cases unit No = refused
+    answer-cases unit Hold = refused
+    answer-cases unit Silent = awaited
+
+    unit-cases : (unit : Option ℕ) → P (by_unit layout volumes first others mounts operator unit)
+    unit-cases None = later mounts refl operator
+    unit-cases (Some unit) = answer-cases unit (answer_in_office (mount_question layout first unit) operator)
+
+    mounted-cases : P (mounted_all layout volumes (first ∷ others) mounts operator)
+    mounted-cases = unit-cases (unit_beside volumes first mounts)
+
+  mounted-comes : (others : List ℕ) (mounts : MountTable) (operator : Option Answering) → ((one : ℕ) → is_among others one ≡ true → is_among volumes one ≡ true)
+      → MayCome volumes (mounted_all layout volumes others mounts operator).taking
+  mounted-comes [] mounts operator among = tt
+  mounted-comes (first ∷ others) mounts operator among =
+      mounted-cases (λ (attempt : Attempt). MayCome volumes attempt.taking) first others mounts operator (among first (or_left _ _ (equal-itself first))) tt
+      (λ table same office. mounted-comes others table office (λ one is. among one (among-more one first others is)))
+
+  mounted-takes : (others : List ℕ) (mounts : MountTable) (operator : Option Answering)
+      → (mounted_all layout volumes others mounts operator).takes ≡ takes_by volumes (mounted_all layout volumes others mounts operator).taking
+  mounted-takes [] mounts operator = refl
+  mounted-takes (first ∷ others) mounts operator =
+      mounted-cases (λ (attempt : Attempt). attempt.takes ≡ takes_by volumes attempt.taking) first others mounts operator refl refl (λ table same office. mounted-takes others table office)
+
+  -- what steps hold stays
+  mounted-held : (others : List ℕ) (mounts : MountTable) (operator : Option Answering) → (mounted_all layout volumes others mounts operator).mounts.held ≡ mounts.held
+  mounted-held [] mounts operator = refl
+  mounted-held (first ∷ others) mounts operator =
+      mounted-cases (λ (attempt : Attempt). attempt.mounts.held ≡ mounts.held) first others mounts operator refl refl (λ table same office. mounted-held others table office ∙ same)
+
+  module _ (room : MachineRoomView) where
+    pub asked-comes : FitsUnits layout volumes room → MayCome volumes (asked_for layout volumes room.mounts room.operator).taking
+    asked-comes fits =
+        subst (λ (attempt : Attempt). MayCome volumes attempt.taking) (sym (asked-fits layout volumes room fits)) (mounted-comes volumes room.mounts room.operator (λ volume is. is))
+
+    pub asked-takes : (asked_for layout volumes room.mounts room.operator).takes ≡ takes_by volumes (asked_for layout volumes room.mounts room.operator).taking
+    asked-takes = units_cases (nat_lt layout.units (length volumes))
+      where
+        free_cases : (lacks : Bool) → (by_free layout volumes room lacks).takes ≡ takes_by volumes (by_free layout volumes room lacks).taking
+        free_cases true = refl
+        free_cases false = mounted-takes volumes room.mounts room.operator
+
+        units_cases : (exceeds : Bool) → (by_units layout volumes room exceeds).takes ≡ takes_by volumes (by_units layout volumes room exceeds).taking
+        units_cases true = refl
+        units_cases false = free_cases (nat_lt (needed layout volumes room).free (needed layout volumes room).need)
+
+    pub asked-held : FitsUnits layout volumes room → (asked_for layout volumes room.mounts room.operator).mounts.held ≡ room.mounts.held
+    asked-held fits = ap (λ (attempt : Attempt). attempt.mounts.held) (asked-fits layout volumes room fits) ∙ mounted-held volumes room.mounts room.operator
+
+-- what isn't all mounted is not taken
+pub takes-none : (volumes : List ℕ) (taking : Taking) → (taking ≡ Taken → ⊥) → takes_by volumes taking ≡ None
+takes-none volumes Taken isnt = absurd (isnt refl)
+takes-none volumes (Exceeds need) isnt = refl
+takes-none volumes (Lacks need free) isnt = refl
+takes-none volumes (Refused one) isnt = refl
+takes-none volumes Awaited isnt = refl
+
+-- one that is kept passes
+among-kept : (kept : ℕ → Bool) (volumes : List ℕ) (one : ℕ) → is_among (filter kept volumes) one ≡ true → kept one ≡ true
+among-kept kept [] one among = false-not-true among
+among-kept kept (first ∷ others) one among =
+    bool-cases (kept first)
+    (λ stays. or-cases (first == one) (is_among (filter kept others) one) (subst (λ b. is_among (cond b (first ∷ filter kept others) (filter kept others)) one ≡ true) stays among)
+    (λ same. subst (λ it. kept it ≡ true) (equal-true first one same) stays)
+    (λ more. among-kept kept others one more))
+    (λ goes. among-kept kept others one (subst (λ b. is_among (cond b (first ∷ filter kept others) (filter kept others)) one ≡ true) goes among))
+
+-- a volume that a step wants is that of one of its DDs
+pub wanted-dd : (layout : Layout) (step : Wanting) (volume : ℕ) → is_among (volumes_of layout step) volume ≡ true → is_some (dd_on step (Some volume)) ≡ true
+wanted-dd layout step volume among = among-kept (λ volume. is_some (dd_on step (Some volume))) (range_with_len 0 (length layout.volumes.items)) volume among

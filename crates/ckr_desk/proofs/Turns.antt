@@ -8,3 +8,4 @@ pub mod Plans
 pub mod Resting
 pub mod Readiness
 pub mod Preparation
+pub mod Mounts

@@ -7,3 +7,4 @@ pub mod Events
 pub mod Failures
 pub mod Preparation
 pub mod Questions
+pub mod Mounts

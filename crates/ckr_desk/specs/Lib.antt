@@ -17,5 +17,6 @@ pub mod Records
 pub mod NoChange
 pub mod CallOutcomes
 pub mod Preparation
+pub mod Attendance
 pub mod Model
 pub mod Continuation

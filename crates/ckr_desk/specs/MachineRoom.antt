@@ -3,7 +3,7 @@ use Rattle.std.specs.Prelude.{◌≡◌, ◌≤◌, ℕ, nat_lt, Bool, IsTrue, L
 use Rattle.std.specs.List.{list_all}
 use Rattle.ckr_desk_turn.specs.Mounts.{Attempt, asked_for, mounted_all, not_taken}
 use Rattle.ckr_desk_turn.specs.declared.taking.Taking.{Taking}
-use Rattle.ckr_desk_turn.specs.declared.taking.Taking.TheVariants.{Taken, Exceeds, Lacks, Refused, Awaited}
+use Rattle.ckr_desk_turn.specs.declared.taking.Taking.TheVariants.{Taken}
 use Rattle.ckr_queue.specs.Mounts.{units_with}
 use Rattle.ckr_queue.specs.Units.{are_mounted, need_of}
 use Rattle.ckr_volumes.specs.declared.layout.Layout.{Layout}

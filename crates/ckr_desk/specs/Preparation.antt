@@ -9,10 +9,10 @@ use Rattle.ckr_jcl.specs.declared.deck.Job.{Job}
 use Rattle.ckr_desk_memory.specs.EventChanges.{is_of_run}
 use Rattle.ckr_desk_memory.specs.OwnSteps.{PlanCommits, PlanFollows, PlanIsOf}
 use Rattle.ckr_desk_memory.specs.Plans.{IsSpelledPlan, IsUnitPlan, behind_unit, told_by}
-use Rattle.ckr_desk_memory.specs.Preparation.{IsPrepared, needs_room}
+use Rattle.ckr_desk_memory.specs.Preparation.{IsPrepared, IsPreparedFor, needs_room}
 use Rattle.ckr_desk_memory.specs.View.{JobsView, RunningStepView, running_of}
 use Rattle.ckr_meaning.specs.EffectiveJob.{OwnedStep}
-use Rattle.ckr_points.specs.Rows.{RunRow}
+use Rattle.ckr_points.specs.Rows.{RunRow, run_of}
 use Rattle.ckr_desk_refines.specs.Moves.{event_in}
 use Rattle.ckr_steps.specs.declared.unit_ahead.UnitAhead.{UnitAhead}
 use Rattle.ckr_steps.specs.Inputs.{AreThere}
@@ -20,7 +20,10 @@ use Rattle.ckr_steps.specs.StepUnit.{HasWorkedOut}
 use Rattle.ckr_desk_store.specs.Answers.{HasFailed}
 use Rattle.ckr_desk_turn.specs.Inquiries.{decide, is_ask}
 use Rattle.ckr_desk_turn.specs.declared.plan.Plan.{Plan}
-use Rattle.ckr_desk_turn.specs.declared.plan.Plan.TheVariants.{Tell}
+use Rattle.ckr_desk_turn.specs.declared.plan.Plan.TheVariants.{Ask, Pass, Take, Tell, Work}
+use Rattle.ckr_events.specs.declared.event.Event.TheVariants.{Ended}
+use Rattle.ckr_events.specs.declared.event.Ending.TheVariants.{Allocation}
+use Rattle.ckr_desk_memory.specs.MountMemory.{none_prepared}
 use Rattle.ckr_desk.specs.declared.error.DeskError.{DeskError}
 use Rattle.ckr_desk.specs.declared.error.DeskError.TheVariants.{NoMemory, DiskFault, BookFull}
 use Rattle.ckr_desk_memory.specs.declared.preparation.Prepared.{Prepared}
@@ -156,3 +159,45 @@ NotLooked told content run answer old new NoMemory =
 NotLooked told content run answer old new (BookFull need room) =
     (new.store ≡ record old.store { disk = new.store.disk }) × HasNoRoomAhead told content run answer new need room
 NotLooked told content run answer old new _ = ⊥
+
+-- ---- memory before the operator is asked for mounts
+
+-- a plan that tells an event or none, or asks whether a run may be restarted: no unit and no checkpoint
+abbrev pub IsTellingPlan : Plan → Type 0
+IsTellingPlan (Work job) = ⊥
+IsTellingPlan (Pass job reply) = ⊥
+IsTellingPlan (Take job) = ⊥
+IsTellingPlan _ = Unit {0}
+
+-- the rewrite of a plan's event, if it tells one, can be counted
+abbrev pub may_tell : JobsView → Plan → Bool
+may_tell jobs (Tell reply event) = may_count event jobs.tables.desk.sets
+may_tell jobs _ = true
+
+-- its event needs no more memory than this, if it tells one, and its rewrite can be counted; neither does whatever the operator answers, if it asks him
+abbrev pub IsPreparedToSettle : JobsView → Plan → Prepared → Type 0
+IsPreparedToSettle jobs (Tell reply event) prepared = (may_count event jobs.tables.desk.sets ≡ true) × IsPrepared jobs event None prepared
+IsPreparedToSettle jobs (Ask inquiry) prepared = IsPreparedFor jobs inquiry prepared
+IsPreparedToSettle jobs _ prepared = Unit {0}
+
+-- and there is memory for the end of the run, at any DD and for any cause
+pub record HasMemoryFor {D : Type 0} (run : ℕ) (plan : Plan) (desk : DeskView D) (prepared : Prepared) : Type 0 where
+  pub tells : IsPreparedToSettle desk.jobs plan prepared
+  pub ends : (row : RunRow) → run_of desk.jobs.tables.desk run ≡ Some row → (dd cause first second : ℕ) → IsPrepared desk.jobs (Ended row.number (Allocation dd cause first second)) None none_prepared
+
+-- there is none
+abbrev pub LacksMemory : {D : Type 0} → DeskView D → DeskView D → DeskError → Type 0
+LacksMemory old new NoMemory = IsSame old new
+LacksMemory old new _ = ⊥
+
+-- What a turn tells of the next unit of a run's running step, before the operator is asked: it follows, and commits what the step has behind the unit.
+pub record IsToldByUnit {D : Type 0} (run : ℕ) (desk : DeskView D) (unit : UnitAhead) (plan : Plan) : Type 0 where
+  pub on : RunningStepView
+  pub found : find (is_of_run run) desk.jobs.running ≡ Some on
+  pub planned : (row : RunRow) (own : OwnedStep) → IsAt run desk on row own
+      → plan ≡ told_by desk.store.layout desk.jobs.tables.desk row (running_of desk.jobs.tables.desk (behind_unit on unit)) unit.worked
+  pub shape : IsUnitPlan plan
+  pub spelled : IsSpelledPlan plan
+  pub follows : PlanFollows desk.store.layout desk.jobs.tables.desk plan
+  pub commits : PlanCommits desk.jobs.tables.desk (behind_unit on unit ∷ []) plan
+  pub of_run : PlanIsOf on.run plan

@@ -5,16 +5,10 @@ use Rattle.ckr_console.specs.declared.question.Answer.{Answer}
 use Rattle.ckr_events.specs.declared.event.Event.{Event}
 use Rattle.ckr_desk_turn.specs.Turns.{MountedTurn, turn_of}
 use Rattle.ckr_desk_turn.specs.declared.reply.Reply.{Reply}
-use Rattle.ckr_desk_turn.specs.declared.reply.Turn.{Turn}
-use Rattle.ckr_desk_turn.specs.declared.taking.Taking.TheVariants.{Taken}
 use Rattle.ckr_desk.specs.declared.error.DeskError.{DeskError}
 use Rattle.ckr_desk.specs.declared.error.DeskError.TheVariants.{NoMemory, BookFull}
 use Rattle.ckr_desk.specs.State.{MachineRoomView, RoomyDesk}
 use Rattle.ckr_desk.specs.Requests.{has_room, room_behind}
-
--- a turn whose step has all the volumes that it wants: each volume counts as mounted
-abbrev pub untaken : Turn → MountedTurn
-untaken turn = record { turn = turn; taking = Taken }
 
 unfoldable pub reply_of : RoomyDesk → MountedTurn → Answer → Reply
 reply_of state turn answer = (turn_of state.desk turn answer).reply

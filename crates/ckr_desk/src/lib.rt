@@ -1,6 +1,7 @@
 //! The desk: an event is on the disk before the jobs go on by it.
 #![tactic(auto)]
 
+mod attendance;
 mod checkpoint;
 mod continuation;
 mod data_set;
@@ -11,6 +12,7 @@ mod error;
 mod event_bytes;
 mod kept_point;
 mod machine_room;
+mod mount;
 mod opening;
 mod plan;
 mod preparation;

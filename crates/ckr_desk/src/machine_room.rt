@@ -2,14 +2,15 @@
 ghost use Rattle.std.specs.Prelude.{◌≡◌, ◌<◌, ◌≤◌, [], ℕ, IfSome, IsTrue, List, None, Some, length};
 ghost use Rattle.std.specs.Option.{is_some, option_map};
 ghost use Rattle.ckr_console.specs.Answering.{answer_in_office, asked};
-ghost use Rattle.ckr_desk_turn.specs.Mounts.{asked_for, mount_question, mounted_all};
+ghost use Rattle.ckr_desk_turn.specs.Mounts.{asked_for, gives_up, mount_question, mounted_all};
 ghost use Rattle.ckr_desk_turn.specs.declared.taking.Taking.TheVariants.{Taken as AllTaken};
-ghost use Rattle.ckr_queue.specs.Mounts.{given_up, held_at, units_with, with_held};
+ghost use Rattle.ckr_queue.specs.Mounts.{held_at, units_with, with_held};
 ghost use Rattle.ckr_queue.specs.Units.{are_mounted, is_among, is_volume_list, need_of, IsMountedBeside};
+ghost use Rattle.ckr_desk.specs.Attendance.{given_up_if};
 ghost use Rattle.ckr_desk.specs.MachineRoom.{FitsUnits, IsAskedFor, NeedsNoQuestion, are_there, behind_attempt};
 
 use ckr_console::{Answer, Console, Operator, Question};
-use ckr_desk_turn::Taking;
+use ckr_desk_turn::{Reply, Taking, gives_up};
 use ckr_queue::{Mounts, Need, VolumeList};
 use ckr_volumes::Layout;
 use std::marker::Model;
@@ -151,12 +152,14 @@ impl<O: Operator> MachineRoom<O> {
         self.mounts.take(initiator, volumes);
     }
 
-    /// The step on an initiator gives its volumes up, if it holds any. They stay on their units.
-    pub(crate) fn give_up(&mut self, initiator: u8)
+    /// Behind a turn with such a reply the step on its initiator gives its volumes up, or keeps them. Those that it gives up stay on their units.
+    pub(crate) fn give_up_behind(&mut self, initiator: u8, reply: &Reply)
         requires above { 1 ≤ initiator }
         requires below { initiator ≤ 8 }
-        ensures { self.new ≡ record self.old { mounts = given_up initiator self.old.mounts } }
+        ensures { self.new ≡ given_up_if (gives_up reply.now) initiator self.old }
     {
-        self.mounts.give_up(initiator);
+        if gives_up(reply) {
+            self.mounts.give_up(initiator);
+        }
     }
 }

@@ -20,3 +20,4 @@ pub mod OwnSets
 pub mod OwnEvents
 pub mod OwnSteps
 pub mod Mounts
+pub mod MountMemory

@@ -13,6 +13,7 @@ mod holder_laws;
 mod jobs;
 mod known_point;
 mod lines;
+mod mount_memory;
 mod mounts;
 mod opening;
 mod plan;

@@ -1,5 +1,5 @@
 //! Memory for an event, before it is written.
-ghost use Rattle.std.specs.Prelude.{◌≡◌, ◌≤◌, ◌<◌, true, find, IfErr, IfOk, IfSome, OnOk};
+ghost use Rattle.std.specs.Prelude.{◌≡◌, ◌≤◌, ◌<◌, true, find, None, IfErr, IfOk, IfSome, OnOk};
 ghost use Rattle.std.specs.List.{AllByRecursion};
 ghost use Rattle.std.specs.Option.{option_copied};
 ghost use Rattle.ckr_desk_memory.specs.EventChanges.{is_point_of, AreUsesOf, HasUses};
@@ -10,6 +10,7 @@ ghost use Rattle.ckr_desk_memory.specs.View.{begun, resumed};
 ghost use Rattle.ckr_steps.specs.StepUnit.{AreCounted};
 ghost use Rattle.ckr_programs.specs.Ranges.{IsInRange};
 ghost use Rattle.ckr_points_tables.specs.Invariant.{HasRoom, IsAnySubmittable, MaySubmit};
+ghost use Rattle.ckr_points_tables.specs.Rooms.{IsRoomier};
 ghost use Rattle.ckr_points_tables.specs.RunJobs.{own_of};
 ghost use Rattle.ckr_volumes.specs.declared.layout.Layout.{Layout as LayoutOfDisk};
 
@@ -190,6 +191,7 @@ impl Jobs {
         ensures failed { self.new.failed ≡ self.old.failed }
         ensures points { self.new.points ≡ self.old.points }
         ensures jobs { (layout : LayoutOfDisk) → AreJobs layout self.old → AreJobs layout self.new }
+        ensures room { IsRoomier self.old.tables.room self.new.tables.room }
         ensures ok { IfOk result (IsPrepared self.new event.now (option_copied deck.entry)) }
         ensures takes { IfErr result (λ _. needs_room event.now ≡ true) }
     {
@@ -242,6 +244,7 @@ impl Jobs {
         ensures failed { self.new.failed ≡ self.old.failed }
         ensures points { self.new.points ≡ self.old.points }
         ensures jobs { (layout : LayoutOfDisk) → AreJobs layout self.old → AreJobs layout self.new }
+        ensures room { IsRoomier self.old.tables.room self.new.tables.room }
         ensures ok { IfOk result (IsPreparedFor self.new inquiry.now) }
     {
         let checkpoint = inquiry.id.is_some();
@@ -272,6 +275,7 @@ impl Jobs {
         ensures failed { self.new.failed ≡ self.old.failed }
         ensures points { self.new.points ≡ self.old.points }
         ensures jobs { (layout : LayoutOfDisk) → AreJobs layout self.old → AreJobs layout self.new }
+        ensures room { IsRoomier self.old.tables.room self.new.tables.room }
         ensures tables { OnOk result (HasRoom self.new.tables event.now) }
         ensures queue { OnOk result (HasQueueRoom event.now self.new.queue_room) }
         ensures uses { IfOk result (HasUses event.now (option_copied deck.entry)) }

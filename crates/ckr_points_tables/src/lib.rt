@@ -17,6 +17,7 @@ mod put_back;
 mod release;
 mod restart;
 mod rewrite;
+mod room_law;
 mod rooms;
 mod run_change;
 mod run_marks;
@@ -34,6 +35,7 @@ pub use effective_job::{EffectiveJob, step_at};
 pub use entry_now::EntryNow;
 pub use own_step::OwnStep;
 pub use rewrite::{master_dd, master_name};
+pub use room_law::runs_have_room;
 pub use run_table::{
     InEffect, LostNames, ReturnCode, RunTable, StepPoint, WrittenEntries, WrittenEntry,
 };

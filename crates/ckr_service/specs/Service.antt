@@ -5,7 +5,8 @@ use Rattle.std.specs.Io.KnownBytes.{Appends}
 use Rattle.ckr_outside.specs.Faults.{Rose}
 use Rattle.ckr_outside.specs.Front.{AppendsFront}
 use Rattle.ckr_desk.specs.Soundness.{state_of}
-use Rattle.ckr_desk.specs.State.{DeskView, disk_of, layout_of, machine_room_of}
+use Rattle.ckr_desk.specs.Attendance.{attended}
+use Rattle.ckr_desk.specs.State.{DeskView, disk_of, layout_of}
 use Rattle.ckr_desk.specs.Model.OpenImages.{event_records}
 use Rattle.ckr_desk.specs.Model.Reply.{Reply}
 use Rattle.ckr_cards.specs.Session.{Handed}
@@ -24,7 +25,7 @@ use Rattle.ckr_service.specs.Texts.{answer_text}
 
 -- the desk with its machine room
 abbrev pub attended_of : {D : Type 0} → (D → List ℕ) → DeskView D → AttendedDesk
-attended_of content desk = record { state = state_of content desk; machine_room = machine_room_of desk }
+attended_of content desk = attended content desk
 
 -- and with those who take office later
 abbrev pub staffed_by : {D : Type 0} → (D → List ℕ) → DeskView D → RosterView → StaffedDesk

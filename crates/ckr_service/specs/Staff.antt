@@ -1,37 +1,18 @@
 -- A desk with its operators: the one in office, who answers what he is asked in a turn, and those who take office later.
-use Rattle.std.specs.Prelude.{ℕ, suc, Bool, List, [], ◌∷◌, Option, None, Some}
-use Rattle.ckr_console.specs.Answering.{Answering, restart_answer}
+use Rattle.std.specs.Prelude.{ℕ, suc, List, [], ◌∷◌, Option, None, Some}
+use Rattle.ckr_console.specs.Answering.{Answering}
+use Rattle.ckr_desk.specs.Attendance.{attended_event as event_of_attended}
+pub use Rattle.ckr_desk.specs.Attendance.{AttendedDesk, attended_fits, attended_reply, behind_attended}
 use Rattle.ckr_desk.specs.Model.Restart.{Decked}
 use Rattle.ckr_desk.specs.Model.Layout.{Layout}
-use Rattle.ckr_desk.specs.Model.Reply.{Reply}
 use Rattle.ckr_desk.specs.Model.Rows.{TablesModel}
 use Rattle.ckr_desk.specs.Model.Turn.{Turn}
 use Rattle.ckr_desk.specs.Requests.{behind_call, spelled}
-use Rattle.ckr_desk.specs.State.{MachineRoomView, RoomyDesk, room_at_first}
-use Rattle.ckr_desk.specs.Turn.{asks, behind_turn, event_of_turn, reply_of, room_behind_answer, turn_fits, untaken}
+use Rattle.ckr_desk.specs.State.{RoomyDesk, room_at_first}
 
--- ---- the operator in office
-
--- a desk between two calls, with its machine room: what the operator in office answers, or None where nobody is in office, and what its units carry
-pub record AttendedDesk : Type 0 where
-  pub state : RoomyDesk
-  pub machine_room : MachineRoomView
-
--- a turn in which he gives his answer, if he is asked: the reply, the bytes of its event, and whether the book has room for it
-abbrev pub attended_reply : AttendedDesk → Turn → Reply
-attended_reply desk turn = reply_of desk.state (untaken turn) (restart_answer desk.machine_room.operator)
-
+-- the bytes of the event of a turn
 abbrev pub attended_event : AttendedDesk → Turn → List (List ℕ)
-attended_event desk turn = spelled (event_of_turn desk.state (untaken turn) (restart_answer desk.machine_room.operator))
-
-abbrev pub attended_fits : AttendedDesk → Turn → Bool
-attended_fits desk turn = turn_fits desk.state (untaken turn) (restart_answer desk.machine_room.operator)
-
-unfoldable pub behind_attended : AttendedDesk → Turn → AttendedDesk
-behind_attended desk turn = record {
-  state = behind_turn desk.state (untaken turn) (restart_answer desk.machine_room.operator);
-  machine_room = room_behind_answer (asks desk.state (untaken turn) (restart_answer desk.machine_room.operator)) desk.machine_room;
-}
+attended_event desk turn = spelled (event_of_attended desk turn)
 
 -- ---- those who take office later
 

@@ -220,24 +220,24 @@ const RELEASED: &[u8] =
 const FROM_A_HELD: &[u8] =
     b"//K JOB RD=R\n//S EXEC PGM=IEFBR14\n//\n$T 1 2\n$F 1 S001\n//K JOB RESTART=S\n//S EXEC PGM=IEFBR14\n//\n$T 1 2\n";
 
-/// Nobody is asked before a job goes on where an earlier one has stopped: it does where nobody is in office, and the first answer is for the restart of its own. One that is
+/// Nobody is asked before a job goes on where an earlier one has stopped: it does where nobody is in office, and the first answer is for the mount that its next turn wants. One that is
 /// held hasn't ended.
 const ASKED: [(&[&[u8]], &[&str], &[u8], &[u8]); 4] = [
     (
         &[FAILED],
         &[],
         FAILED_AGAIN,
-        b"J0000003 K SUBMITTED\nI1 J0000003 S1 RESTARTED AT C0000001 TAKEN 1 CHKPT 04\nI1 J0000003 S1 WORKED 1 TAKEN 2\nI1 AWAITING REPLY\n",
+        b"J0000003 K SUBMITTED\nI1 J0000003 S1 RESTARTED AT C0000001 TAKEN 1 CHKPT 04\nI1 AWAITING REPLY\nI1 AWAITING REPLY\n",
     ),
     (
         &[FAILED],
-        &["N"],
+        &["YN"],
         FAILED_AGAIN,
         b"J0000003 K SUBMITTED\nI1 J0000003 S1 RESTARTED AT C0000001 TAKEN 1 CHKPT 04\nI1 J0000003 S1 WORKED 1 TAKEN 2\nI1 J0000003 ENDED S001 A6\n",
     ),
     (
         &[FAILED],
-        &["HY"],
+        &["YHY"],
         RELEASED,
         b"J0000003 K SUBMITTED\nI1 J0000003 S1 RESTARTED AT C0000001 TAKEN 1 CHKPT 04\nI1 J0000003 S1 WORKED 1 TAKEN 2\nI1 J0000003 HELD\nJ0000001 M ENDED\nJ0000002 K ENDED\nJ0000003 K HELD\nJ0000003 RELEASED\nI1 J0000003 S1 RESTARTED AT C0000001 TAKEN 1 CHKPT 04\nI1 J0000003 S1 WORKED 1 TAKEN 2\nI1 J0000003 S1 CHKPT 00 C0000002\nI1 J0000003 S1 WORKED 1 TAKEN 3\nI1 J0000003 S1 CHKPT 00 C0000003\nI1 J0000003 S1 WORKED 1 TAKEN 3\nI1 J0000003 S1 ENDED RC 0\nI1 J0000003 S2 STARTED\nI1 J0000003 S2 WORKED 1 TAKEN 0\nI1 J0000003 S2 ENDED RC 0\nI1 J0000003 ENDED\nI1 IDLE\n",
     ),

@@ -12,6 +12,8 @@ mod denials;
 #[cfg(test)]
 mod makes;
 #[cfg(test)]
+mod mounts;
+#[cfg(test)]
 mod operators;
 #[cfg(test)]
 mod programs;

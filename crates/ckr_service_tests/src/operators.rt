@@ -46,10 +46,10 @@ const NO_OPERATORS: &[&str] = &[];
 
 /// Where nobody is in office it is so each time.
 const NOBODY: &[u8] =
-    b"//K JOB\n//S1 EXEC PGM=COPY,RD=R\n//SYSUT1 DD DSN=IN.A,DISP=SHR\n//SYSUT2 DD DSN=OUT.K,DISP=(NEW,CATLG,CATLG),SPACE=(80,100)\n//\n$T 1 3\n$F 1 S001\n$T 1 5\n$T 1 1\n$S\n";
+    b"//J JOB RD=R\n//S1 EXEC PGM=IEFBR14\n//*\n//\n$T 1 2\n$F 1 S001\n$T 1 5\n$T 1 1\n$S\n";
 
 const NOBODY_TEXT: &[u8] =
-    b"J0000002 K SUBMITTED\nI1 J0000002 SELECTED\nI1 J0000002 S1 STARTED\nI1 J0000002 S1 WORKED 1 TAKEN 1\nI1 AWAITING REPLY\nI1 AWAITING REPLY\nI1 AWAITING REPLY\nLINE 10 REFUSED\n";
+    b"J0000002 J SUBMITTED\nI1 J0000002 SELECTED\nI1 J0000002 S1 STARTED\nI1 AWAITING REPLY\nI1 AWAITING REPLY\nI1 AWAITING REPLY\nLINE 9 REFUSED\n";
 
 /// A unit without space asks too: its step keeps the records that it has, and a no ends the job with them.
 const NO_SPACE: &[u8] =
@@ -97,21 +97,21 @@ const STOPPED: [(&[&str], &[u8], &[&str], &[u8], &[u8]); 5] = [
         b"I1 J0000002 ENDED S2F3 A6\n",
     ),
     (
-        &[],
+        &["Y"],
         FAILED,
         &["N"],
         b"$T 1 1\n",
         b"I1 J0000002 ENDED S2F3 A6\n",
     ),
     (
-        &["H"],
+        &["YH"],
         FAILED,
-        &["Y"],
+        &["YY"],
         b"$Q\n$T 1 1\n$L 2\n$T 1 99\n$O\n",
         b"J0000001 M ENDED\nJ0000002 K HELD\nI1 IDLE\nJ0000002 RELEASED\nI1 J0000002 S1 RESTARTED AT C0000002 TAKEN 40 CHKPT 04\nI1 J0000002 S1 WORKED 20 TAKEN 60\nI1 J0000002 S1 CHKPT 00 C0000003\nI1 J0000002 S1 WORKED 1 TAKEN 60\nI1 J0000002 S1 ENDED RC 0\nI1 J0000002 ENDED\nI1 IDLE\nCHK.K VOL001 C 256 3/20 2.1.0\nIN.A VOL001 C 80 60/100 1.1.0\nOUT.K VOL001 C 80 60/100 2.1.0\n",
     ),
     (
-        &["H"],
+        &["YH"],
         FAILED,
         &["N"],
         b"$L 2\n$T 1 1\n$Q\n",
@@ -139,19 +139,19 @@ fn told_in_turn(
 fn runs_go_by_the_operators_answers(rt: HostRuntime) -> Result<(), Fail> {
     let alloc = rt.alloc();
     let table = [
-        (["H", "Y"].as_slice(), HELD, HELD_TEXT, 0),
-        (["N"].as_slice(), DENIED, DENIED_TEXT, 0),
+        (["YH", "Y"].as_slice(), HELD, HELD_TEXT, 0),
+        (["YN"].as_slice(), DENIED, DENIED_TEXT, 0),
         (
-            ["HY"].as_slice(),
+            ["YHY"].as_slice(),
             HELD_AT_CHECKPOINT,
             HELD_AT_CHECKPOINT_TEXT,
             0,
         ),
-        (["HN"].as_slice(), NAMES, NAMES_TEXT, 8),
-        (["", "Y"].as_slice(), SILENT, SILENT_TEXT, 0),
+        (["YHN"].as_slice(), NAMES, NAMES_TEXT, 8),
+        (["Y", "Y"].as_slice(), SILENT, SILENT_TEXT, 0),
         (NO_OPERATORS, NOBODY, NOBODY_TEXT, 8),
-        (["", "N"].as_slice(), NO_SPACE, NO_SPACE_TEXT, 0),
-        (["HHY"].as_slice(), HELD_AGAIN, HELD_AGAIN_TEXT, 0),
+        (["Y", "N"].as_slice(), NO_SPACE, NO_SPACE_TEXT, 0),
+        (["YHHY"].as_slice(), HELD_AGAIN, HELD_AGAIN_TEXT, 0),
         (["*"].as_slice(), CAUTIOUS, CAUTIOUS_TEXT, 8),
     ];
     for (operators, stream, text, status) in table {

@@ -1,5 +1,5 @@
 -- A turn whose checkpoint doesn't fit, on a trusted disk: nothing is written, and the step goes on.
-use Rattle.std.proofs.Common.{◌≡◌, ◌&&◌, ℕ, Bool, true, false, List, refl, ap, sym, ◌∙◌, Option, None, Some, Ok}
+use Rattle.std.proofs.Common.{◌≡◌, ◌&&◌, ℕ, Bool, true, false, List, refl, ap, sym, ◌∙◌, None, Some, Ok}
 use Rattle.std.specs.Prelude.{if◌then◌else◌}
 use Rattle.std.specs.Option.{is_some}
 use Rattle.std.proofs.lemmas.Bool.{true≢false}

@@ -1,5 +1,5 @@
 -- A turn that passes a checkpoint, for which no entry is written, from the desk as it stood.
-use Rattle.std.proofs.Common.{◌≡◌, ℕ, false, List, [], ◌∷◌, refl, ap, sym, ◌∙◌, Option, Ok}
+use Rattle.std.proofs.Common.{◌≡◌, ℕ, false, List, [], ◌∷◌, refl, ap, sym, ◌∙◌, Ok}
 use Rattle.std.specs.List.{AllByRecursion}
 use Rattle.ckr_console.specs.declared.question.Answer.{Answer}
 use Rattle.ckr_desk_memory.specs.Invariant.{IsRunnable}

@@ -25,12 +25,8 @@ use Rattle.ckr_desk_turn.specs.Codes.{CodePlaceModel, code_plan, initiator_of, r
 use Rattle.ckr_desk_turn.specs.declared.plan.Plan.{Plan}
 use Rattle.ckr_desk_turn.specs.declared.plan.Plan.TheVariants.{Rest, Tell, Work, Pass, Take, Ask, Wait}
 use Rattle.ckr_desk_turn.specs.declared.reply.Turn.{Turn}
-use Rattle.ckr_desk_turn.specs.declared.taking.Taking.{Taking}
-use Rattle.ckr_desk_turn.specs.declared.taking.Taking.TheVariants.{Taken, Exceeds, Lacks, Refused, Awaited}
-use Rattle.ckr_desk_turn.specs.Mounts.{Wanting, by_taking, dd_on, ended_at, plan_by, wanting}
+use Rattle.ckr_desk_turn.proofs.Mounts.{plan_by-cases}
 use Rattle.ckr_desk_turn.specs.Turns.{MountedTurn, plan_for}
-use Rattle.ckr_desk_memory.specs.Model.Cause.{Cause}
-use Rattle.ckr_desk_memory.specs.Model.Cause.TheVariants.{Units, MountRefused}
 use Rattle.ckr_desk_turn.specs.Allocation.{allocation_of}
 use Rattle.ckr_desk_turn.specs.Select.{next_run, run_on_initiator}
 use Rattle.ckr_desk_turn.specs.Deferred.{continued_at_entry, continued_by, deferred_verdict, queued_plan}
@@ -140,26 +136,10 @@ module _ (layout : Layout) (jobs : TurnJobs) where
   unfolding plan_of
   turn-quiet turn = any-quiet (run_on_initiator jobs.tables turn.initiator) (run_plan layout jobs turn.fail) _ (free-quiet turn.initiator turn.fail) (run-quiet turn.fail)
 
-  -- ---- what becomes of the volumes that its step wants
-
-  -- its run ends, or rests
-  ended-quiet : (step : Wanting) (cause : Cause) (plan : Plan) (dd : Option ℕ) → IsQuietPlan plan → IsQuietPlan (ended_at step cause plan dd)
-  ended-quiet step cause plan None quiet = quiet
-  ended-quiet step cause plan (Some dd) quiet = refl
-
-  taking-quiet : (taking : Taking) (plan : Plan) (step : Wanting) → IsQuietPlan plan → IsQuietPlan (by_taking layout taking plan step)
-  taking-quiet Taken plan step quiet = quiet
-  taking-quiet (Exceeds need) plan step quiet = ended-quiet step (Units need layout.units) plan (dd_on step None) quiet
-  taking-quiet (Lacks need free) plan step quiet = tt
-  taking-quiet (Refused volume) plan step quiet = ended-quiet step (MountRefused volume) plan (dd_on step (Some volume)) quiet
-  taking-quiet Awaited plan step quiet = tt
-
-  mounted-quiet : (taking : Taking) (plan : Plan) → IsQuietPlan plan → IsQuietPlan (plan_by layout jobs.tables taking plan)
-  unfolding plan_by
-  mounted-quiet taking plan quiet = any-quiet (wanting jobs.tables plan) (by_taking layout taking plan) plan quiet (λ step. taking-quiet taking plan step quiet)
-
+  -- where its step doesn't have its volumes it rests, or its run ends
   pub plan-quiet : (one : MountedTurn) → IsQuietPlan (plan_for layout jobs one)
-  plan-quiet one = mounted-quiet one.taking (plan_of layout jobs one.turn) (turn-quiet one.turn)
+  plan-quiet one =
+      plan_by-cases IsQuietPlan layout jobs.tables (plan_of layout jobs one.turn) (turn-quiet one.turn) (λ step dd cause its. refl) one.taking (λ need free. tt) (λ awaited. tt)
 
 -- ---- what the operator's answer comes to
 

@@ -1,5 +1,5 @@
 -- A turn that tells no event and doesn't call the disk, from the desk as it stood.
-use Rattle.std.proofs.Common.{◌≡◌, ◌++◌, ℕ, List, true, ap, sym, ◌∙◌, subst, append-nil, Option, None, Ok}
+use Rattle.std.proofs.Common.{◌≡◌, ◌++◌, ℕ, List, true, ap, sym, ◌∙◌, subst, append-nil, None, Ok}
 use Rattle.ckr_book.specs.Book.{room_of}
 use Rattle.ckr_console.specs.declared.question.Answer.{Answer}
 use Rattle.ckr_desk_memory.specs.View.{JobsView}

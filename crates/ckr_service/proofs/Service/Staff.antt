@@ -2,13 +2,12 @@
 use Rattle.std.proofs.Common.{◌≡◌, ℕ, ◌+◌, List, [], ◌∷◌, Option, None, Some, append-nil, ap, refl, sym, ◌∙◌}
 use Rattle.std.specs.Prelude.{MatchOption}
 use Rattle.std.specs.Option.{option_map}
-use Rattle.ckr_console.specs.Answering.{Answering, restart_answer}
+use Rattle.ckr_console.specs.Answering.{Answering}
 use Rattle.ckr_desk.specs.Model.Restart.{Decked}
 use Rattle.ckr_desk.specs.Model.Turn.{Turn}
 use Rattle.ckr_desk.specs.Requests.{behind_call}
 use Rattle.ckr_desk.specs.Soundness.{IsTrusted, KeepsWithin, state_of}
 use Rattle.ckr_desk.specs.State.{DeskView, MachineRoomView, RoomyDesk, layout_of, machine_room_of, room_at_first}
-use Rattle.ckr_desk.specs.Turn.{asks, behind_turn, room_behind_answer, untaken}
 use Rattle.ckr_service.specs.Service.{staffed_by}
 use Rattle.ckr_service.specs.Staff.{AttendedDesk, RosterView, StaffedDesk, behind_attended, staffed_with, with_call}
 use Rattle.ckr_service.specs.Stops.{Goes}
@@ -27,9 +26,7 @@ staffed-same a b state room roster =
     ∙ ap (λ (r : RosterView). record { attended = b.attended; roster = r }) roster
 
 -- behind a turn
-pub attended-behind : (a b : AttendedDesk) (turn : Turn) → b.state ≡ behind_turn a.state (untaken turn) (restart_answer a.machine_room.operator)
-    → b.machine_room ≡ room_behind_answer (asks a.state (untaken turn) (restart_answer a.machine_room.operator)) a.machine_room → b ≡ behind_attended a turn
-unfolding behind_attended
+pub attended-behind : (a b : AttendedDesk) (turn : Turn) → b.state ≡ (behind_attended a turn).state → b.machine_room ≡ (behind_attended a turn).machine_room → b ≡ behind_attended a turn
 attended-behind a b turn state room = attended-same b (behind_attended a turn) state room
 
 -- behind a call that is no turn

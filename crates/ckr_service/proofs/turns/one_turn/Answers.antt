@@ -1,11 +1,7 @@
 use Rattle.std.proofs.Common.{refl}
 use Rattle.ckr_desk.specs.Model.Reply.{Reply}
-use Rattle.ckr_desk.proofs.Calls.FullBooks.{turn-fits, turn-full}
-use Rattle.ckr_desk.proofs.Calls.OneEvent.{turn-few}
-use Rattle.ckr_desk.specs.Soundness.{state_of}
-use Rattle.ckr_desk.specs.State.{disk_of, operator_of}
-use Rattle.ckr_desk.specs.Turn.{untaken}
-use Rattle.ckr_console.specs.Answering.{restart_answer}
+use Rattle.ckr_desk.proofs.Attendances.{attended-few, attended-fit, attended-full}
+use Rattle.ckr_desk.specs.State.{disk_of}
 use Rattle.ckr_service.specs.declared.stop.Halt.TheVariants as Halts
 use Rattle.ckr_service.specs.Service.{attended_of}
 use Rattle.ckr_service.specs.Staff.{attended_event}
@@ -36,7 +32,7 @@ returns-in-Err-BookFull-clause-halt g c holds =
     let e = c.in-Err-BookFull.ensures in
     with_full_book d.content d.moment d.left_since d.size Reply d.may_leave d.faults old c.turn.new.self c.in-Err-BookFull.field-0 c.in-Err-BookFull.field-0-0 c.in-Err-BookFull.field-0-1 _
     (TurnHalt Halts.Book c.args.turn (attended_of d.content old)) c.in-Err-BookFull.field-0-is (e.kept c.requires.is_open holds) e.keeps.stays
-    (turn-full (state_of d.content old) (untaken c.args.turn) (restart_answer (operator_of old)) c.in-Err-BookFull.field-0 c.in-Err-BookFull.field-0-0 c.in-Err-BookFull.field-0-1 c.in-Err-BookFull.field-0-is (e.comes holds).cause, refl, refl)
+    (attended-full (attended_of d.content old) c.args.turn c.in-Err-BookFull.field-0 c.in-Err-BookFull.field-0-0 c.in-Err-BookFull.field-0-1 c.in-Err-BookFull.field-0-is (e.comes holds).cause, refl, refl)
 
 pub returns-in-Err-DiskFault-clause-halt : goal.returns-in-Err-DiskFault-clause-halt
 returns-in-Err-DiskFault-clause-halt g c holds =
@@ -48,18 +44,18 @@ returns-in-Err-DiskFault-clause-halt g c holds =
     let s = attended_of d.content old in
     let came = attended_event s c.args.turn in
     with_failed_disk d.content d.moment d.left_since d.size d.may_leave old new came (TurnHalt Halts.Disk c.args.turn s)
-    (laws.reads_an_image (disk_of new) holds.tells) (laws.counts_now (disk_of new)) (turn-few s.state (untaken c.args.turn) (restart_answer s.machine_room.operator))
+    (laws.reads_an_image (disk_of new) holds.tells) (laws.counts_now (disk_of new)) (attended-few s c.args.turn)
     (failed_kept d.content d.moment d.left_since d.size Reply old new c.in-Err-DiskFault.field-0 came c.in-Err-DiskFault.field-0-is (e.kept c.requires.is_open holds))
     (refl, refl)
 
 pub returns-in-Ok-clause-fits : goal.returns-in-Ok-clause-fits
-returns-in-Ok-clause-fits g c holds = turn-fits (state_of g.D.Disk.content c.args.desk.now) (untaken c.args.turn) (restart_answer (operator_of c.args.desk.now)) (c.in-Ok.ensures.comes holds).fits
+returns-in-Ok-clause-fits g c holds = attended-fit (attended_of g.D.Disk.content c.args.desk.now) c.args.turn (c.in-Ok.ensures.comes holds).fits
 
 pub returns-in-Ok-clause-after : goal.returns-in-Ok-clause-after
 returns-in-Ok-clause-after g c holds =
     let d = g.D.Disk in
     let e = c.in-Ok.ensures in
-    attended-behind (attended_of d.content c.args.desk.now) (attended_of d.content c.turn.new.self) c.args.turn (e.comes holds).after (e.answered holds)
+    attended-behind (attended_of d.content c.args.desk.now) (attended_of d.content c.turn.new.self) c.args.turn (e.comes holds).after (e.machine_room holds)
 
 pub returns-in-Ok-clause-events : goal.returns-in-Ok-clause-events
 returns-in-Ok-clause-events g c holds = (c.in-Ok.ensures.comes holds).events
