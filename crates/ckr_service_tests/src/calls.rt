@@ -162,18 +162,20 @@ pub fn is_answered(alloc: Global, row: &Row) -> Result<bool, Fail> {
     Ok(ended.status == status && ended.text.as_slice() == text)
 }
 
-/// No operators: every question stays unanswered.
-fn nobody(alloc: Global) -> Vec<Standing> {
-    Vec::new(alloc)
+/// One operator, who says yes to everything.
+fn standing(alloc: Global) -> Result<Vec<Standing>, AllocError> {
+    let mut operators = Vec::new(alloc);
+    operators.push(Standing(Answer::Yes))?;
+    Ok(operators)
 }
 
-/// The status and the sink after a stream whose source and sink fail at one call each, on a fresh disk. Nobody is in office.
+/// The status and the sink after a stream whose source and sink fail at one call each, on a fresh disk. The operator says yes to everything.
 pub fn served(alloc: Global, bytes: Vec<u8>, take: u32, put: u32) -> Result<(u8, MemSink), Fail> {
     let disk = formatted(alloc, SMALL_CARDS, SMALL_SIZE, None, None)?;
     let mut source = MemSource::new(bytes, [take].to_vec(alloc)?);
     let mut sink = MemSink::new(alloc, [put].to_vec(alloc)?);
     let words = words(alloc, "run", "night.disk")?;
-    let operators = nobody(alloc);
+    let operators = standing(alloc)?;
     let closed = batch_desk(alloc, &words, &mut source, &mut sink, disk, operators);
     Ok((closed.status, sink))
 }
@@ -380,7 +382,7 @@ fn a_sink_that_fails_within_a_command(rt: HostRuntime) -> Result<(), Fail> {
     let mut source = MemSource::new(STREAM.to_vec(alloc)?, Vec::new(alloc));
     let mut sink = MemSink::new(alloc, [2].to_vec(alloc)?);
     let words = words(alloc, "run", "night.disk")?;
-    let operators = nobody(alloc);
+    let operators = standing(alloc)?;
     let Closed { status, disk } = batch_desk(
         alloc,
         &words,
