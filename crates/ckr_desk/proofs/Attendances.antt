@@ -15,7 +15,7 @@ use Rattle.ckr_desk_turn.specs.Mounts.{Attempt, Wanting, asked_for, at_hand, att
 use Rattle.ckr_desk_turn.specs.Plans.{plan_of}
 use Rattle.ckr_desk_turn.specs.Turns.{MountedTurn}
 use Rattle.ckr_desk_turn.specs.declared.plan.Plan.{Plan}
-use Rattle.ckr_desk_turn.specs.declared.reply.Reply.{Reply}
+use Rattle.ckr_points.specs.declared.reply.Reply.{Reply}
 use Rattle.ckr_desk_turn.specs.declared.reply.Turn.{Turn}
 use Rattle.ckr_desk_turn.specs.declared.taking.Taking.{Taking}
 use Rattle.ckr_desk_turn.specs.declared.taking.Taking.TheVariants.{Taken}

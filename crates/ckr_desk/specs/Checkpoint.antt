@@ -15,10 +15,10 @@ use Rattle.ckr_outside.specs.Disk.{Only}
 use Rattle.ckr_points.specs.Rows.{RunRow}
 use Rattle.ckr_steps.specs.EntryRecords.{ChangesRecords, HasEntry, StemsFromRecords}
 use Rattle.ckr_desk_store.specs.OpenImages.{event_records}
-use Rattle.ckr_desk_turn.specs.declared.reply.Chkpt.{Chkpt}
-use Rattle.ckr_desk_turn.specs.declared.reply.Chkpt.TheVariants.{Done, NotWritten}
-use Rattle.ckr_desk_turn.specs.declared.reply.Reply.{Reply}
-use Rattle.ckr_desk_turn.specs.declared.reply.Reply.TheVariants.{Checkpointed}
+use Rattle.ckr_points.specs.declared.reply.Chkpt.{Chkpt}
+use Rattle.ckr_points.specs.declared.reply.Chkpt.TheVariants.{Done, NotWritten}
+use Rattle.ckr_points.specs.declared.reply.Reply.{Reply}
+use Rattle.ckr_points.specs.declared.reply.Reply.TheVariants.{Checkpointed}
 use Rattle.ckr_desk_turn.specs.Spelling.{IsSpelled}
 use Rattle.ckr_desk.specs.declared.checkpoint.Attempt.{Attempt}
 use Rattle.ckr_desk.specs.declared.checkpoint.Attempt.TheVariants.{Fit, Unfit}

@@ -8,7 +8,7 @@ use Rattle.ckr_desk_memory.specs.View.{PointView}
 use Rattle.ckr_desk_turn.specs.Desk.{DeskModel}
 use Rattle.ckr_desk_turn.specs.declared.plan.Plan.{Plan}
 use Rattle.ckr_desk_turn.specs.declared.plan.Plan.TheVariants.{Tell}
-use Rattle.ckr_desk_turn.specs.declared.reply.Reply.TheVariants.{DeniedRestart}
+use Rattle.ckr_points.specs.declared.reply.Reply.TheVariants.{DeniedRestart}
 use Rattle.ckr_entry.specs.Entry.{IsEntry, entry_in}
 use Rattle.ckr_entry.specs.Parts.{Entry}
 use Rattle.ckr_entry.specs.declared.point.Mark.{Mark}

@@ -3,9 +3,9 @@ pub use Rattle.ckr_desk_memory.specs.Plans
 pub use Rattle.ckr_desk_refines.specs.Listing
 pub use Rattle.ckr_desk_refines.specs.declared.data_sets.Listed
 pub use Rattle.ckr_desk_store.specs.OpenImages
-pub use Rattle.ckr_desk_turn.specs.declared.reply.Chkpt
-pub use Rattle.ckr_desk_turn.specs.declared.reply.How
-pub use Rattle.ckr_desk_turn.specs.declared.reply.Reply
+pub use Rattle.ckr_points.specs.declared.reply.Chkpt
+pub use Rattle.ckr_points.specs.declared.reply.How
+pub use Rattle.ckr_points.specs.declared.reply.Reply
 pub use Rattle.ckr_desk_turn.specs.declared.reply.Submitted
 pub use Rattle.ckr_desk_turn.specs.declared.reply.Turn
 pub use Rattle.ckr_points.specs.Restart

@@ -4,7 +4,7 @@ use Rattle.ckr_console.specs.Answering.{asked}
 use Rattle.ckr_console.specs.declared.question.Answer.{Answer}
 use Rattle.ckr_events.specs.declared.event.Event.{Event}
 use Rattle.ckr_desk_turn.specs.Turns.{MountedTurn, turn_of}
-use Rattle.ckr_desk_turn.specs.declared.reply.Reply.{Reply}
+use Rattle.ckr_points.specs.declared.reply.Reply.{Reply}
 use Rattle.ckr_desk.specs.declared.error.DeskError.{DeskError}
 use Rattle.ckr_desk.specs.declared.error.DeskError.TheVariants.{NoMemory, BookFull}
 use Rattle.ckr_desk.specs.State.{MachineRoomView, RoomyDesk}

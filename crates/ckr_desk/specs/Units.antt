@@ -22,10 +22,10 @@ use Rattle.ckr_desk_store.specs.OpenImages.{event_records, Opens}
 use Rattle.ckr_desk_turn.specs.Turns.{IsMountedTurnOf, MountedTurn, plan_for}
 use Rattle.ckr_desk_turn.specs.declared.plan.Plan.{Plan}
 use Rattle.ckr_desk_turn.specs.declared.plan.Plan.TheVariants.{Tell, Work, Pass, Take, Ask, Wait}
-use Rattle.ckr_desk_turn.specs.declared.reply.Chkpt.{Chkpt}
-use Rattle.ckr_desk_turn.specs.declared.reply.Chkpt.TheVariants.{Suppressed}
-use Rattle.ckr_desk_turn.specs.declared.reply.Reply.{Reply}
-use Rattle.ckr_desk_turn.specs.declared.reply.Reply.TheVariants.{Checkpointed}
+use Rattle.ckr_points.specs.declared.reply.Chkpt.{Chkpt}
+use Rattle.ckr_points.specs.declared.reply.Chkpt.TheVariants.{Suppressed}
+use Rattle.ckr_points.specs.declared.reply.Reply.{Reply}
+use Rattle.ckr_points.specs.declared.reply.Reply.TheVariants.{Checkpointed}
 use Rattle.ckr_desk_turn.specs.Inquiries.{decide}
 use Rattle.ckr_volumes.specs.declared.layout.Layout.{Layout}
 use Rattle.ckr_desk.specs.declared.error.DeskError.{DeskError}

@@ -29,7 +29,7 @@ use Rattle.ckr_rules.specs.declared.cases.DeferredCase.{DeferredCase}
 use Rattle.ckr_rules.specs.declared.cases.Verdict.{Verdict}
 use Rattle.ckr_rules.specs.declared.cases.Verdict.TheVariants.{Step as AtStep, Checkpoint, Denied}
 use Rattle.ckr_desk_turn.specs.declared.plan.Plan.TheVariants.{Rest}
-use Rattle.ckr_desk_turn.specs.declared.reply.Reply.TheVariants.{Idle}
+use Rattle.ckr_points.specs.declared.reply.Reply.TheVariants.{Idle}
 use Rattle.ckr_desk_turn.specs.Deferred.{continued_at_entry, continued_by, deferred_plan, deferred_verdict}
 use Rattle.ckr_desk_turn.specs.Invariant.{IsAdmitted}
 use Rattle.ckr_desk_turn.specs.Queue.{AreNumbered}

@@ -40,8 +40,8 @@ use Rattle.ckr_points_tables.specs.Allocation.{IsAllocation, MayAllocate, alloca
 use Rattle.ckr_points_tables.specs.View.{run_on, seen_by}
 use Rattle.ckr_desk_turn.specs.declared.plan.Plan.{Plan}
 use Rattle.ckr_desk_turn.specs.declared.plan.Plan.TheVariants.{Rest, Tell}
-use Rattle.ckr_desk_turn.specs.declared.reply.How.TheVariants.{Completed, Allocation as AllocationHow}
-use Rattle.ckr_desk_turn.specs.declared.reply.Reply.TheVariants.{Idle, NothingToFail, Started, JobEnded}
+use Rattle.ckr_points.specs.declared.reply.How.TheVariants.{Completed, Allocation as AllocationHow}
+use Rattle.ckr_points.specs.declared.reply.Reply.TheVariants.{Idle, NothingToFail, Started, JobEnded}
 use Rattle.ckr_desk_turn.specs.Allocation.{allocation_of, cause_numbers, items_in}
 use Rattle.ckr_desk_turn.specs.Select.{is_on, next_run, run_on_initiator}
 use Rattle.ckr_desk_turn.specs.Codes.{code_plan, initiator_of, reached_by}

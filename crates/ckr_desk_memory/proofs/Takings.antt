@@ -8,8 +8,8 @@ use Rattle.ckr_base.proofs.Numbers.{equal-true}
 use Rattle.ckr_base.proofs.Options.{some-not-none, some-one}
 use Rattle.ckr_desk_turn.specs.declared.plan.Plan.{Plan}
 use Rattle.ckr_desk_turn.specs.declared.plan.Plan.TheVariants.{Rest, Tell, Work}
-use Rattle.ckr_desk_turn.specs.declared.reply.Reply.{Reply}
-use Rattle.ckr_desk_turn.specs.declared.reply.Reply.TheVariants.{AwaitingReply, WaitingUnits}
+use Rattle.ckr_points.specs.declared.reply.Reply.{Reply}
+use Rattle.ckr_points.specs.declared.reply.Reply.TheVariants.{AwaitingReply, WaitingUnits}
 use Rattle.ckr_desk_turn.specs.declared.taking.Taking.{Taking}
 use Rattle.ckr_desk_turn.specs.declared.taking.Taking.TheVariants.{Taken, Exceeds, Lacks, Refused, Awaited}
 use Rattle.ckr_desk_turn.specs.Allocation.{cause_numbers}

@@ -26,10 +26,9 @@ use Rattle.ckr_points_tables.specs.View.{facts_in, facts_of, row_with}
 use Rattle.ckr_desk_turn.specs.declared.inquiry.Inquiry.{Inquiry}
 use Rattle.ckr_desk_turn.specs.declared.plan.Plan.{Plan}
 use Rattle.ckr_desk_turn.specs.declared.plan.Plan.TheVariants.{Rest, Tell, Work, Pass, Take, Ask, Wait}
-use Rattle.ckr_desk_turn.specs.declared.reply.How.{How}
-use Rattle.ckr_desk_turn.specs.declared.reply.How.TheVariants.{Completed, Abended, Allocation}
-use Rattle.ckr_desk_turn.specs.declared.reply.Reply.{Reply}
-use Rattle.ckr_desk_turn.specs.declared.reply.Reply.TheVariants.{JobEnded, Worked as WorkedReply}
+use Rattle.ckr_points.specs.declared.reply.Reply.{Reply}
+use Rattle.ckr_points.specs.declared.reply.Reply.TheVariants.{Worked as WorkedReply}
+pub use Rattle.ckr_points.specs.Replies.{HasCode, IsToldReply}
 use Rattle.ckr_desk_turn.specs.Codes.{CodePlaceModel as ReachedByTurn, code_plan, initiator_of, running_reached}
 use Rattle.ckr_desk_turn.specs.Jobs.{TurnStep, step_name_of}
 use Rattle.ckr_desk_turn.specs.Spelling.{IsCode, IsSpelled}
@@ -81,16 +80,6 @@ reached_seen reached = record { writes = reached.writes; lengths = reached.lengt
 abbrev pub IsAnyCode : Option Code → Type 0
 IsAnyCode None = Unit {0}
 IsAnyCode (Some code) = IsCode code
-
--- the code that a reply tells, if there is one, has a spelling
-abbrev pub HasCode : How → Type 0
-HasCode Completed = Unit {0}
-HasCode (Abended code rule) = IsCode code
-HasCode (Allocation step dd cause) = Unit {0}
-
-abbrev pub IsToldReply : Reply → Type 0
-IsToldReply (JobEnded job how) = HasCode how
-IsToldReply _ = Unit {0}
 
 -- the events of all answers to what the operator is asked have a spelling
 pub record IsSpelledInquiry (inquiry : Inquiry) : Type 0 where

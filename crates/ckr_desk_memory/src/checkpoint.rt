@@ -15,7 +15,7 @@ ghost use Rattle.ckr_points_tables.specs.RunJobs.{effective, IsFitting};
 ghost use Rattle.ckr_steps.specs.StepUnit.{AreCounted};
 ghost use Rattle.ckr_volumes.specs.declared.layout.Layout.{Layout as LayoutOfDisk};
 ghost use Rattle.ckr_desk_turn.specs.Queue.{AreNumbered};
-ghost use Rattle.ckr_desk_turn.specs.declared.reply.Reply.TheVariants.{Checkpointed as CheckpointedReply};
+ghost use Rattle.ckr_points.specs.declared.reply.Reply.TheVariants.{Checkpointed as CheckpointedReply};
 ghost use Rattle.ckr_desk_turn.specs.Spelling.{IsSpelled};
 ghost use Rattle.ckr_desk_memory.specs.Checkpoints.{HasEntrySpace, HasLayout, IsCheckpointOf};
 ghost use Rattle.ckr_desk_memory.specs.Entries.{next_entry, next_id, step_now};

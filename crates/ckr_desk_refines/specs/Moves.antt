@@ -13,8 +13,8 @@ use Rattle.ckr_desk_refines.specs.Standing.{OwnStands}
 use Rattle.ckr_desk_turn.specs.Desk.{DeskModel, behind, failed_behind, with_asked}
 use Rattle.ckr_desk_turn.specs.declared.plan.Plan.{Plan}
 use Rattle.ckr_desk_turn.specs.declared.plan.Plan.TheVariants.{Rest, Tell, Work, Pass, Take, Ask, Wait}
-use Rattle.ckr_desk_turn.specs.declared.reply.Reply.{Reply}
-use Rattle.ckr_desk_turn.specs.declared.reply.Reply.TheVariants.{AwaitingReply, Idle}
+use Rattle.ckr_points.specs.declared.reply.Reply.{Reply}
+use Rattle.ckr_points.specs.declared.reply.Reply.TheVariants.{AwaitingReply, Idle}
 use Rattle.ckr_volumes.specs.declared.layout.Layout.{Layout}
 use Rattle.ckr_volumes.specs.Records.{record_at, records_on}
 use Rattle.ckr_volumes.specs.Layouts.{StandsIn, lie_apart}

@@ -22,7 +22,7 @@ ghost use Rattle.ckr_desk_refines.specs.Moves.{HasSameRecords, HasWaited, HaveMo
 ghost use Rattle.ckr_desk_refines.specs.Standing.{StandsForDesk, StandsBut};
 ghost use Rattle.ckr_desk_turn.specs.Model.Cards.{kept_of_stored};
 ghost use Rattle.ckr_desk_turn.specs.declared.plan.Plan.TheVariants.{Tell, Wait};
-ghost use Rattle.ckr_desk_turn.specs.declared.reply.Reply.{Reply};
+ghost use Rattle.ckr_points.specs.declared.reply.Reply.{Reply};
 ghost use Rattle.ckr_desk_turn.specs.Desk.{DeskModel, behind, jobs_of, purged as purged_desk, released as released_desk, submitted as submitted_desk};
 ghost use Rattle.ckr_desk_turn.specs.Inquiries.{decide};
 ghost use Rattle.ckr_volumes.specs.declared.layout.Layout.{Layout};

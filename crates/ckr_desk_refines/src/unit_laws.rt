@@ -23,7 +23,7 @@ ghost use Rattle.ckr_desk_turn.specs.Desk.{DeskModel, behind, done_by, jobs_of, 
 ghost use Rattle.ckr_desk_turn.specs.Inquiries.{decide, is_ask};
 ghost use Rattle.ckr_desk_turn.specs.Turns.{IsMountedTurnOf, MountedTurn, plan_for};
 ghost use Rattle.ckr_desk_turn.specs.declared.plan.Plan.TheVariants.{Pass, Wait, Work};
-ghost use Rattle.ckr_desk_turn.specs.declared.reply.Reply.{Reply};
+ghost use Rattle.ckr_points.specs.declared.reply.Reply.{Reply};
 ghost use Rattle.ckr_volumes.specs.declared.layout.Layout.{Layout};
 ghost use Rattle.ckr_desk_refines.specs.Forecast.{IsTold};
 ghost use Rattle.ckr_desk_refines.specs.Unit.{HasPassed, IsPutBack, StandsBehindUnit};

@@ -18,8 +18,8 @@ use Rattle.ckr_volumes.specs.declared.layout.Layout.{Layout}
 use Rattle.ckr_desk_turn.specs.declared.inquiry.Inquiry.{Inquiry}
 use Rattle.ckr_desk_turn.specs.declared.plan.Plan.{Plan}
 use Rattle.ckr_desk_turn.specs.declared.plan.Plan.TheVariants.{Ask, Tell}
-use Rattle.ckr_desk_turn.specs.declared.reply.How.TheVariants.{Abended}
-use Rattle.ckr_desk_turn.specs.declared.reply.Reply.TheVariants.{JobEnded}
+use Rattle.ckr_points.specs.declared.reply.How.TheVariants.{Abended}
+use Rattle.ckr_points.specs.declared.reply.Reply.TheVariants.{JobEnded}
 use Rattle.ckr_desk_turn.specs.Jobs.{TurnJobs, TurnStep, effect_entry, running_in, step_name_of}
 
 -- how far a run with a code has come: the writes of its running step and the lengths with them, else the committed ones

@@ -14,7 +14,7 @@ use Rattle.ckr_rules.specs.declared.cases.Verdict.TheVariants.{Step, Checkpoint,
 use Rattle.ckr_volumes.specs.declared.layout.Layout.{Layout}
 use Rattle.ckr_desk_turn.specs.declared.plan.Plan.{Plan}
 use Rattle.ckr_desk_turn.specs.declared.plan.Plan.TheVariants.{Rest, Tell}
-use Rattle.ckr_desk_turn.specs.declared.reply.Reply.TheVariants.{DeniedRestart, Idle, Restarted, Selected}
+use Rattle.ckr_points.specs.declared.reply.Reply.TheVariants.{DeniedRestart, Idle, Restarted, Selected}
 
 -- the restart is denied
 abbrev pub denied_plan : RunRow → Denial → Plan

@@ -18,8 +18,8 @@ use Rattle.ckr_volumes.specs.declared.layout.Layout.{Layout}
 use Rattle.ckr_desk_turn.specs.declared.plan.Plan.{Plan}
 use Rattle.ckr_desk_turn.specs.declared.failed_run.FailedRun.{FailedRun}
 use Rattle.ckr_desk_turn.specs.declared.plan.Plan.TheVariants.{Rest, Tell, Work, Pass, Take, Ask, Wait}
-use Rattle.ckr_desk_turn.specs.declared.reply.Reply.{Reply}
-use Rattle.ckr_desk_turn.specs.declared.reply.Reply.TheVariants.{AwaitingReply, Idle}
+use Rattle.ckr_points.specs.declared.reply.Reply.{Reply}
+use Rattle.ckr_points.specs.declared.reply.Reply.TheVariants.{AwaitingReply, Idle}
 use Rattle.ckr_desk_turn.specs.Due.{next_due}
 use Rattle.ckr_desk_turn.specs.Inquiries.{decide, is_ask}
 use Rattle.ckr_desk_turn.specs.Jobs.{TurnJobs, TurnStep, as_stopped, effect_entry}

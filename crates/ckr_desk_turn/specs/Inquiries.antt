@@ -13,8 +13,8 @@ use Rattle.ckr_rules.specs.declared.cases.Rule.TheVariants.{A6}
 use Rattle.ckr_desk_turn.specs.declared.inquiry.Inquiry.{Inquiry}
 use Rattle.ckr_desk_turn.specs.declared.plan.Plan.{Plan}
 use Rattle.ckr_desk_turn.specs.declared.plan.Plan.TheVariants.{Ask, Rest, Tell, Wait}
-use Rattle.ckr_desk_turn.specs.declared.reply.How.TheVariants.{Abended}
-use Rattle.ckr_desk_turn.specs.declared.reply.Reply.TheVariants.{AwaitingReply, JobEnded, JobHeld, Restarted}
+use Rattle.ckr_points.specs.declared.reply.How.TheVariants.{Abended}
+use Rattle.ckr_points.specs.declared.reply.Reply.TheVariants.{AwaitingReply, JobEnded, JobHeld, Restarted}
 
 abbrev pub question_of : Inquiry → Question
 question_of inquiry = Restart inquiry.job inquiry.step inquiry.id

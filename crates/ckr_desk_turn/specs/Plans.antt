@@ -17,9 +17,9 @@ use Rattle.ckr_rules.specs.RuleTables.{suppresses}
 use Rattle.ckr_volumes.specs.declared.layout.Layout.{Layout}
 use Rattle.ckr_desk_turn.specs.declared.plan.Plan.{Plan}
 use Rattle.ckr_desk_turn.specs.declared.plan.Plan.TheVariants.{Rest, Tell, Work, Pass, Take}
-use Rattle.ckr_desk_turn.specs.declared.reply.Chkpt.TheVariants.{Suppressed}
-use Rattle.ckr_desk_turn.specs.declared.reply.How.TheVariants.{Completed, Allocation}
-use Rattle.ckr_desk_turn.specs.declared.reply.Reply.TheVariants.{Idle, NothingToFail, Started, Checkpointed, Cancelled, StepEnded, JobEnded}
+use Rattle.ckr_points.specs.declared.reply.Chkpt.TheVariants.{Suppressed}
+use Rattle.ckr_points.specs.declared.reply.How.TheVariants.{Completed, Allocation}
+use Rattle.ckr_points.specs.declared.reply.Reply.TheVariants.{Idle, NothingToFail, Started, Checkpointed, Cancelled, StepEnded, JobEnded}
 use Rattle.ckr_desk_turn.specs.declared.reply.Turn.{Turn}
 use Rattle.ckr_desk_turn.specs.Allocation.{allocation_of, cause_numbers}
 use Rattle.ckr_desk_turn.specs.Select.{next_run, run_on_initiator}

@@ -4,7 +4,7 @@ use Rattle.std.specs.Option.{option_map_or}
 use Rattle.ckr_events.specs.declared.event.Event.{Event}
 use Rattle.ckr_points.specs.Rows.{RunRow, run_of}
 use Rattle.ckr_desk_turn.specs.declared.plan.Plan.TheVariants.{Rest}
-use Rattle.ckr_desk_turn.specs.declared.reply.Reply.TheVariants.{Idle}
+use Rattle.ckr_points.specs.declared.reply.Reply.TheVariants.{Idle}
 use Rattle.ckr_desk_turn.specs.Checkpoints.{ServedTurn, checkpoint_turn}
 use Rattle.ckr_desk_turn.specs.Desk.{DeskModel, TurnDone, behind, done_by, progress_of, start_of, with_progress}
 

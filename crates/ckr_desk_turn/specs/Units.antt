@@ -18,7 +18,7 @@ use Rattle.ckr_points.specs.Soundness.{rewrite_of}
 use Rattle.ckr_volumes.specs.declared.layout.Layout.{Layout}
 use Rattle.ckr_desk_turn.specs.declared.plan.Plan.{Plan}
 use Rattle.ckr_desk_turn.specs.declared.plan.Plan.TheVariants.{Rest, Tell}
-use Rattle.ckr_desk_turn.specs.declared.reply.Reply.TheVariants.{Worked}
+use Rattle.ckr_points.specs.declared.reply.Reply.TheVariants.{Worked}
 use Rattle.ckr_desk_turn.specs.Codes.{code_plan, initiator_of, running_reached}
 use Rattle.ckr_desk_turn.specs.Jobs.{TurnJobs, TurnStep, step_name_of}
 

@@ -24,6 +24,7 @@ pub use checkpoint_laws::{
     entries_have_the_state_of_the_program, entries_in_range_have_a_spelling,
     events_of_checkpoints_may_come, written_entries_are_kept, written_entries_count,
 };
+pub use ckr_points::{Chkpt, How, Reply};
 pub use ckr_points_library::Cause;
 pub use deferred_laws::deferred_restarts_are_judged;
 pub use entry_form_laws::{
@@ -41,7 +42,7 @@ pub use mount_laws::plans_with_their_volumes_stay;
 pub use opening_law::{opened_desks_are_desks, sound_events_open_to_a_desk};
 pub use plan::Plan;
 pub use queue_law::the_queue_selects_the_next_run;
-pub use reply::{Chkpt, How, Reply, Submitted, Turn};
+pub use reply::{Submitted, Turn};
 pub use restart_laws::{
     codes_come_to_what_the_rules_say, events_of_restarts_may_come, held_runs_stop,
     restarted_runs_go_on, restarted_runs_stand_at_their_point, restarts_keep_the_desk,

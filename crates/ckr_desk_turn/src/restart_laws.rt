@@ -23,7 +23,7 @@ ghost use Rattle.ckr_rules.specs.declared.cases.Rule.{Rule as RuleOfTable};
 ghost use Rattle.ckr_rules.specs.declared.cases.Rule.TheVariants.{A6};
 ghost use Rattle.ckr_rules.specs.declared.cases.Verdict.TheVariants.{Checkpoint as AtCheckpoint, Denied as DeniedBy, Step as AtStep};
 ghost use Rattle.ckr_volumes.specs.declared.layout.Layout.{Layout as LayoutOfDisk};
-ghost use Rattle.ckr_desk_turn.specs.declared.reply.Reply.TheVariants.{AwaitingReply};
+ghost use Rattle.ckr_points.specs.declared.reply.Reply.TheVariants.{AwaitingReply};
 ghost use Rattle.ckr_desk_turn.specs.declared.taking.Taking.TheVariants.{Awaited};
 ghost use Rattle.ckr_desk_turn.specs.Codes.{asked_at_entry, asked_at_start, ended_by, initiator_of, reached_by, running_reached, verdict_for};
 ghost use Rattle.ckr_desk_turn.specs.Desk.{DeskModel, answered, at_entry, behind, done_by, jobs_of, progress_of, seen, unit_done, with_progress};

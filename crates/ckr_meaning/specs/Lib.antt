@@ -5,5 +5,6 @@ pub mod JobRun
 pub mod Fronts
 pub mod LibrarySet
 pub mod Program
+pub mod SetUses
 pub mod States
 pub mod StepRun

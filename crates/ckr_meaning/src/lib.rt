@@ -4,6 +4,7 @@
 mod laws;
 mod place;
 
+pub use ckr_uses::{dispose, has_set_named, is_temporary, library_name};
 pub use laws::{
     first_steps_leave_other_names, jobs_depend_on_their_names_alone,
     jobs_end_at_one_of_their_places, jobs_go_on_from_step_to_step, jobs_leave_other_names,

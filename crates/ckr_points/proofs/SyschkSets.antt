@@ -14,8 +14,8 @@ use Rattle.ckr_library.specs.Catalog.{Holding}
 use Rattle.ckr_library.specs.NameMaps.{Name, Named, entry_at, same_name}
 use Rattle.ckr_library.proofs.Named.{at-viewed}
 use Rattle.ckr_library.specs.declared.sets.DataSet.{DataSet}
-use Rattle.ckr_uses.specs.SetNames.{library_name, origin_name, run_name}
-use Rattle.ckr_uses.specs.Uses.{written_name}
+use Rattle.ckr_meaning.specs.SetUses.SetNames.{library_name, origin_name, run_name}
+use Rattle.ckr_meaning.specs.SetUses.Uses.{written_name}
 use Rattle.ckr_volumes.specs.declared.layout.Layout.{Layout}
 use Rattle.ckr_points.specs.Restart.{syschk_name}
 use Rattle.ckr_points.specs.RuleCases.{is_syschk_found, serial_at, syschk_found}

@@ -18,7 +18,7 @@ use Rattle.ckr_library.specs.declared.sets.Stamp.{Stamp}
 use Rattle.ckr_library.specs.NameMaps.{Name, Named, same_name, entry_at}
 use Rattle.ckr_meaning.specs.Allotments.{AllotmentModel, found, made, refused, DdAllotment, is_made}
 use Rattle.ckr_meaning.specs.EffectiveJob.{OwnedStep, placed_in, flaws_in, stamp_of}
-use Rattle.ckr_uses.specs.Uses.{uses_of, holds}
+use Rattle.ckr_meaning.specs.SetUses.Uses.{uses_of, holds}
 use Rattle.ckr_meaning.specs.declared.place.Place.{Place}
 use Rattle.ckr_meaning.specs.declared.place.Place.TheVariants.{Before, Opened, Within}
 use Rattle.ckr_volumes.specs.declared.layout.Layout.{Layout}

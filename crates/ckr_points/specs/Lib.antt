@@ -10,6 +10,7 @@ pub mod Needed
 pub mod Staleness
 pub mod Syschk
 pub mod Office
+pub mod Replies
 pub mod Restart
 pub mod Rows
 pub mod Soundness

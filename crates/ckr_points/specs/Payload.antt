@@ -17,7 +17,7 @@ use Rattle.ckr_library.specs.declared.sets.Content.{Content}
 use Rattle.ckr_library.specs.declared.sets.Content.TheVariants.{Plain, Checkpoints}
 use Rattle.ckr_library.specs.NameMaps.{Name, Named, entry_at}
 use Rattle.ckr_meaning.specs.LibrarySet.{Library}
-use Rattle.ckr_uses.specs.Uses.{are_distinct, is_shr}
+use Rattle.ckr_meaning.specs.SetUses.Uses.{are_distinct, is_shr}
 use Rattle.ckr_jcl.specs.declared.deck.After.{After}
 use Rattle.ckr_jcl.specs.declared.deck.After.TheVariants.{Keep}
 use Rattle.ckr_jcl.specs.declared.deck.Dd.{Dd}

@@ -8,7 +8,7 @@ use Rattle.ckr_events.specs.declared.event.Ending.TheVariants.{Completed, Coded,
 use Rattle.ckr_jcl.specs.declared.deck.Job.{Job}
 use Rattle.ckr_entry.specs.declared.point.Mark.{Mark}
 use Rattle.ckr_library.specs.NameMaps.{Name, Named, same_name, entry_at}
-use Rattle.ckr_uses.specs.SetNames.{library_name}
+use Rattle.ckr_meaning.specs.SetUses.SetNames.{library_name}
 use Rattle.ckr_entry.specs.declared.point.Passed.{Passed}
 use Rattle.ckr_meaning.specs.Dispositions.{passed_ended}
 use Rattle.ckr_meaning.specs.EffectiveJob.{Effective, OwnedStep, owned_by, names_of, names_of_steps, names_of_job, is_among}

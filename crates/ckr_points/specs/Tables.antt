@@ -3,7 +3,7 @@ use Rattle.std.specs.Prelude.{ℕ, suc, pred, ◌==◌, Bool, true, false, ◌||
 use Rattle.std.specs.Option.{option_map, option_map_or}
 use Rattle.std.specs.List.{filter_map}
 use Rattle.ckr_base.specs.declared.code.Code.{Code}
-use Rattle.ckr_uses.specs.Disposal.{dispose, is_temporary}
+use Rattle.ckr_meaning.specs.SetUses.Disposal.{dispose, is_temporary}
 use Rattle.ckr_points_library.specs.Commit as allocation
 use Rattle.ckr_jcl.specs.declared.deck.Dd.{Dd}
 use Rattle.ckr_jcl.specs.declared.deck.Job.{Job}

@@ -12,7 +12,7 @@ ghost use Rattle.ckr_points_library.specs.Holdings.{owned};
 use ckr_base::{DsName, Name8};
 use ckr_entry::{Mark, Present};
 use ckr_jcl::{Dd, Job, Step};
-use ckr_uses::library_name;
+use ckr_meaning::library_name;
 
 /// A name's mark among marks.
 pub fn mark_at<'a>(marks: &'a [Mark], name: &DsName) -> Option<&'a Mark>

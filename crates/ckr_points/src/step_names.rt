@@ -10,12 +10,12 @@ ghost use Rattle.ckr_points.specs.Freshness.{dd_under};
 ghost use Rattle.ckr_points.specs.Marks.{is_sysout, sysout_names};
 ghost use Rattle.ckr_points_library.specs.Commit.{output_names};
 ghost use Rattle.ckr_points_library.specs.Holdings.{owned};
-ghost use Rattle.ckr_uses.specs.SetNames.{library_name};
+ghost use Rattle.ckr_meaning.specs.SetUses.SetNames.{library_name};
 
 use ckr_base::{DsName, Name8};
 use ckr_jcl::{Dd, Origin, Step};
+use ckr_meaning::has_set_named;
 use ckr_points_library::is_output;
-use ckr_uses::has_set_named;
 
 /// The DD of a step that has the name.
 pub(crate) fn dd_under<'a>(root: u32, owner: u32, step: &'a Step, name: &DsName) -> Option<&'a Dd>

@@ -12,7 +12,7 @@ ghost use Rattle.ckr_points.specs.Rows.{RunRow, TableSet};
 ghost use Rattle.ckr_points.specs.Soundness.{serials};
 ghost use Rattle.ckr_points.specs.Staleness.{bare_set, held_sets};
 ghost use Rattle.ckr_points.specs.Syschk.{names_its_set};
-ghost use Rattle.ckr_uses.specs.Uses.{written_name};
+ghost use Rattle.ckr_meaning.specs.SetUses.Uses.{written_name};
 
 use ckr_base::{DsName, Volser};
 use ckr_jcl::{Dd, Origin};

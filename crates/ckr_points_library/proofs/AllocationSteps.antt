@@ -17,7 +17,7 @@ use Rattle.ckr_library.specs.NameMaps.{Name, Named, entry_at, same_name, with_en
 use Rattle.ckr_library.proofs.Named.{at-with_entry-other}
 use Rattle.ckr_entry.specs.declared.point.Passed.{Passed}
 use Rattle.ckr_volumes.specs.declared.layout.Layout.{Layout}
-use Rattle.ckr_uses.specs.Uses.{are_distinct}
+use Rattle.ckr_meaning.specs.SetUses.Uses.{are_distinct}
 use Rattle.ckr_meaning.specs.Allotments.{allotment_of, is_passed}
 use Rattle.ckr_meaning.specs.EffectiveJob.{OwnedStep, is_among, name_of, placed_from, placed_one}
 use Rattle.ckr_points_library.specs.declared.cause.Cause.{Cause}

@@ -4,7 +4,7 @@ use Rattle.std.specs.Option.{option_map}
 use Rattle.std.specs.List.{filter_map}
 use Rattle.ckr_jcl.specs.declared.deck.Dd.{Dd}
 use Rattle.ckr_library.specs.NameMaps.{Name}
-use Rattle.ckr_uses.specs.Disposal.{dispose, is_temporary}
+use Rattle.ckr_meaning.specs.SetUses.Disposal.{dispose, is_temporary}
 use Rattle.ckr_meaning.specs.Dispositions.{Disposal}
 use Rattle.ckr_meaning.specs.EffectiveJob.{OwnedStep, name_of}
 

@@ -7,7 +7,7 @@ ghost use Rattle.ckr_jcl.specs.declared.deck.Cond.{Cond as Test};
 ghost use Rattle.ckr_library.specs.Catalog.{Holding, fresh_holding, set_of};
 ghost use Rattle.ckr_library.specs.NameMaps.{EachEntry, entry_at, with_entry};
 ghost use Rattle.ckr_volumes.specs.Layouts.{StandsIn};
-ghost use Rattle.ckr_uses.specs.Uses.{are_distinct};
+ghost use Rattle.ckr_meaning.specs.SetUses.Uses.{are_distinct};
 ghost use Rattle.ckr_meaning.specs.Allotments.{content_for};
 ghost use Rattle.ckr_meaning.specs.EffectiveJob.{name_of, names_of, placed_in, stamp_of};
 ghost use Rattle.ckr_points_library.specs.Allocation.{allocated_all, fits_dd, fresh_set, found_parts, made_of, piece_of, space_of};
@@ -24,7 +24,7 @@ use ckr_entry::Passed;
 use ckr_events::{Made, Piece};
 use ckr_jcl::{Dd, Role, Step};
 use ckr_library::{Content, DataSet, Extent, Library, Part, Stamp};
-use ckr_uses::library_name;
+use ckr_meaning::library_name;
 use ckr_volumes::Layout;
 
 /// What stands in a data set that a DD of this role makes.

@@ -12,7 +12,7 @@ use crate::allotment::is_output;
 use ckr_base::DsName;
 use ckr_jcl::{Dd, Step};
 use ckr_library::Library;
-use ckr_uses::library_name;
+use ckr_meaning::library_name;
 
 /// The name of the data set of a DD, if it is an output: the step puts records or checkpoints into it.
 pub fn output_name(dd: &Dd, root: u32, owner: u32, step: &Step) -> Option<DsName>

@@ -13,7 +13,7 @@ use ckr_base::DsName;
 use ckr_entry::Passed;
 use ckr_jcl::{Dd, Status, Step};
 use ckr_library::{Library, Stamp};
-use ckr_uses::library_name;
+use ckr_meaning::library_name;
 
 /// Opens a data set for output: with OLD it is emptied, with each other status it stays, and it gets the stamp.
 fn open_set(name: &DsName, status: Status, stamp: Stamp, library: &mut Library)

@@ -12,7 +12,7 @@ use ckr_base::DsName;
 use ckr_entry::{Passed, PassedList};
 use ckr_jcl::{After, Dd, Step};
 use ckr_library::Library;
-use ckr_uses::{dispose, is_temporary, library_name};
+use ckr_meaning::{dispose, is_temporary, library_name};
 
 /// Takes a data set out of the library, if it is there.
 fn delete(name: &DsName, library: &mut Library)

@@ -15,10 +15,10 @@ use Rattle.ckr_points.specs.Follows.{follows}
 use Rattle.ckr_points.specs.Rows.{RunRow, TablesModel, run_of, step_of_run}
 use Rattle.ckr_desk_store.specs.State.{StoreView}
 use Rattle.ckr_desk_turn.specs.Spelling.{IsSpelled}
-use Rattle.ckr_desk_turn.specs.declared.reply.Chkpt.{Chkpt}
-use Rattle.ckr_desk_turn.specs.declared.reply.Chkpt.TheVariants.{NotWritten}
-use Rattle.ckr_desk_turn.specs.declared.reply.Reply.{Reply}
-use Rattle.ckr_desk_turn.specs.declared.reply.Reply.TheVariants.{Checkpointed}
+use Rattle.ckr_points.specs.declared.reply.Chkpt.{Chkpt}
+use Rattle.ckr_points.specs.declared.reply.Chkpt.TheVariants.{NotWritten}
+use Rattle.ckr_points.specs.declared.reply.Reply.{Reply}
+use Rattle.ckr_points.specs.declared.reply.Reply.TheVariants.{Checkpointed}
 use Rattle.ckr_desk.specs.Calls.{HasSameJobs}
 use Rattle.ckr_desk.specs.Checkpoint.{IsMade, IsReplyWith, IsUnfit, NotAttempted}
 use Rattle.ckr_desk.specs.declared.error.DeskError.{DeskError}

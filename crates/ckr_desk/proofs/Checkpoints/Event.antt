@@ -39,9 +39,9 @@ use Rattle.ckr_desk_turn.proofs.Checkpoints.Invariant.{taken-keeps}
 use Rattle.ckr_desk_turn.proofs.Checkpoints.Steps.{id-ranged}
 use Rattle.ckr_desk_turn.specs.Checkpoints.{checkpoint_fits, next_id}
 use Rattle.ckr_desk_turn.specs.declared.plan.Plan.TheVariants.{Take}
-use Rattle.ckr_desk_turn.specs.declared.reply.Chkpt.TheVariants.{Done}
-use Rattle.ckr_desk_turn.specs.declared.reply.Reply.{Reply}
-use Rattle.ckr_desk_turn.specs.declared.reply.Reply.TheVariants.{Checkpointed}
+use Rattle.ckr_points.specs.declared.reply.Chkpt.TheVariants.{Done}
+use Rattle.ckr_points.specs.declared.reply.Reply.{Reply}
+use Rattle.ckr_points.specs.declared.reply.Reply.TheVariants.{Checkpointed}
 use Rattle.ckr_desk_turn.specs.Turns.{IsMountedTurnOf, MountedTurn, plan_for}
 use Rattle.ckr_desk_turn.specs.Desk.{DeskModel, TurnDone, failed_behind}
 use Rattle.ckr_desk_turn.specs.NextEvents.{EventComes}

@@ -9,7 +9,7 @@ use Rattle.ckr_outside.specs.Moments.{in_other_words}
 use Rattle.ckr_desk_refines.specs.Moves.{HasSameRecords}
 use Rattle.ckr_desk_store.specs.OpenImages.{event_records}
 use Rattle.ckr_desk_turn.specs.declared.plan.Plan.TheVariants.{Take}
-use Rattle.ckr_desk_turn.specs.declared.reply.Reply.{Reply}
+use Rattle.ckr_points.specs.declared.reply.Reply.{Reply}
 use Rattle.ckr_desk_turn.specs.Turns.{IsMountedTurnOf, MountedTurn, plan_for}
 use Rattle.ckr_desk.proofs.Checkpoints.Entry.{entry-kept}
 use Rattle.ckr_desk.proofs.Checkpoints.Event.{taken-events, taken-fits, taken-kept-within, taken-state, taken-trusted}

@@ -21,9 +21,9 @@ use Rattle.ckr_desk_turn.proofs.RunningSteps.{going-within}
 use Rattle.ckr_desk_turn.specs.Checkpoints.{checkpoint_turn, id_by, step_entries, id_in}
 use Rattle.ckr_desk_turn.specs.Checkpoints as model
 use Rattle.ckr_desk_turn.specs.declared.plan.Plan.TheVariants.{Rest, Take}
-use Rattle.ckr_desk_turn.specs.declared.reply.Chkpt.{Chkpt}
-use Rattle.ckr_desk_turn.specs.declared.reply.Reply.{Reply}
-use Rattle.ckr_desk_turn.specs.declared.reply.Reply.TheVariants.{Checkpointed, Idle}
+use Rattle.ckr_points.specs.declared.reply.Chkpt.{Chkpt}
+use Rattle.ckr_points.specs.declared.reply.Reply.{Reply}
+use Rattle.ckr_points.specs.declared.reply.Reply.TheVariants.{Checkpointed, Idle}
 use Rattle.ckr_desk_turn.specs.Turns.{IsMountedTurnOf, MountedTurn, plan_for, turn_of}
 use Rattle.ckr_desk_turn.specs.Desk.{DeskModel, TurnDone, done_by, progress_of, start_of}
 use Rattle.ckr_desk_turn.specs.Taken.{served_by, taken_of}

@@ -31,7 +31,7 @@ use Rattle.ckr_desk_turn.specs.Invariant.{IsDesk}
 use Rattle.ckr_desk_turn.specs.NextEvents.{EventComes}
 use Rattle.ckr_desk_turn.specs.declared.plan.Plan.{Plan}
 use Rattle.ckr_desk_turn.specs.declared.plan.Plan.TheVariants.{Tell}
-use Rattle.ckr_desk_turn.specs.declared.reply.Reply.{Reply}
+use Rattle.ckr_points.specs.declared.reply.Reply.{Reply}
 use Rattle.ckr_desk_refines.specs.Entries.{AreOwned, AreWithin}
 use Rattle.ckr_desk_refines.specs.EntryRefusal.{AreInEffect}
 use Rattle.ckr_desk_refines.specs.Moves.{KnowsItsEntry}

@@ -16,7 +16,7 @@ use Rattle.ckr_desk.specs.Soundness.{IsTrusted, state_of}
 use Rattle.ckr_desk.specs.State.{DeskView, MachineRoomView, RoomyDesk}
 use Rattle.ckr_desk.specs.Turn.{AnswerStands, AnswerStandsBy, asks, room_behind_answer}
 use Rattle.ckr_desk_turn.specs.Turns.{IsMountedTurnOf, MountedTurn, plan_for}
-use Rattle.ckr_desk_turn.specs.declared.reply.Reply.{Reply}
+use Rattle.ckr_points.specs.declared.reply.Reply.{Reply}
 use Rattle.ckr_desk_turn.specs.declared.plan.Plan.TheVariants.{Pass, Take}
 use Rattle.ckr_desk_turn.specs.Desk.{DeskModel, TurnDone, progress_of, start_of}
 use Rattle.ckr_desk_turn.specs.Taken.{taken_of}

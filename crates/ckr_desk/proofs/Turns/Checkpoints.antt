@@ -10,7 +10,7 @@ use Rattle.ckr_desk_refines.proofs.Units.Checkpoints.{passed-stands}
 use Rattle.ckr_desk_refines.specs.Unit.{HasPassed}
 use Rattle.ckr_desk_store.specs.State.{StoreView}
 use Rattle.ckr_desk_turn.specs.declared.plan.Plan.TheVariants.{Pass}
-use Rattle.ckr_desk_turn.specs.declared.reply.Reply.{Reply}
+use Rattle.ckr_points.specs.declared.reply.Reply.{Reply}
 use Rattle.ckr_desk_turn.specs.Turns.{MountedTurn, plan_for}
 use Rattle.ckr_desk_turn.specs.Desk.{TurnDone, done_by, jobs_of as jobs_of_desk}
 use Rattle.ckr_volumes.specs.declared.layout.Layout.{Layout}

@@ -11,7 +11,7 @@ use Rattle.ckr_desk_turn.specs.declared.failed_run.FailedRun.{FailedRun}
 use Rattle.ckr_desk_turn.specs.declared.inquiry.Inquiry.{Inquiry}
 use Rattle.ckr_desk_turn.specs.declared.plan.Plan.{Plan}
 use Rattle.ckr_desk_turn.specs.declared.plan.Plan.TheVariants.{Rest, Tell, Work, Pass, Take, Ask, Wait}
-use Rattle.ckr_desk_turn.specs.declared.reply.Reply.TheVariants.{AwaitingReply}
+use Rattle.ckr_points.specs.declared.reply.Reply.TheVariants.{AwaitingReply}
 use Rattle.ckr_desk_turn.specs.Inquiries.{decide, decided, holds_it, is_ask, refuses, restarts}
 use Rattle.ckr_volumes.specs.declared.layout.Layout.{Layout}
 

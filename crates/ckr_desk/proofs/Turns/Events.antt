@@ -25,7 +25,7 @@ use Rattle.ckr_desk_store.specs.OpenImages.{Opens, event_records}
 use Rattle.ckr_desk_refines.proofs.Events.Turns.{told-committed, told-stands}
 use Rattle.ckr_desk_turn.specs.declared.plan.Plan.{Plan}
 use Rattle.ckr_desk_turn.specs.declared.plan.Plan.TheVariants.{Rest, Tell, Work, Pass, Take, Ask, Wait}
-use Rattle.ckr_desk_turn.specs.declared.reply.Reply.{Reply}
+use Rattle.ckr_points.specs.declared.reply.Reply.{Reply}
 use Rattle.ckr_desk_turn.specs.Desk.{DeskModel, TurnDone, behind, done_by, jobs_of as jobs_of_desk}
 use Rattle.ckr_desk_turn.specs.Inquiries.{decide, is_ask}
 use Rattle.ckr_desk_turn.specs.Spelling.{IsSpelled}

@@ -10,7 +10,7 @@ use Rattle.ckr_desk_refines.proofs.Standing.DeskView.{desk-so}
 use Rattle.ckr_desk_refines.specs.Standing.{StandsForDesk, desk_seen}
 use Rattle.ckr_desk_store.specs.OpenImages.{event_records}
 use Rattle.ckr_desk_store.specs.State.{StoreView}
-use Rattle.ckr_desk_turn.specs.declared.reply.Reply.{Reply}
+use Rattle.ckr_points.specs.declared.reply.Reply.{Reply}
 use Rattle.ckr_desk_turn.specs.Turns.{MountedTurn, turn_of}
 use Rattle.ckr_desk_turn.specs.Desk.{DeskModel, TurnDone}
 use Rattle.ckr_volumes.specs.declared.layout.Layout.{Layout}

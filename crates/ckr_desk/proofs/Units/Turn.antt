@@ -53,8 +53,8 @@ use Rattle.ckr_desk_turn.specs.Inquiries.{decide, decided, is_ask}
 use Rattle.ckr_desk_turn.specs.Jobs.{TurnStep, as_stopped, step_name_of}
 use Rattle.ckr_desk_turn.specs.declared.plan.Plan.{Plan}
 use Rattle.ckr_desk_turn.specs.declared.plan.Plan.TheVariants.{Rest, Tell, Work, Pass, Take, Ask, Wait}
-use Rattle.ckr_desk_turn.specs.declared.reply.Reply.{Reply}
-use Rattle.ckr_desk_turn.specs.declared.reply.Reply.TheVariants.{Worked}
+use Rattle.ckr_points.specs.declared.reply.Reply.{Reply}
+use Rattle.ckr_points.specs.declared.reply.Reply.TheVariants.{Worked}
 use Rattle.ckr_desk_turn.specs.Turns.{carried_out, MountedTurn, plan_for, turn_of}
 use Rattle.ckr_desk_turn.specs.Desk.{DeskModel, TurnDone, done_by, progress_of, start_of, with_progress, work_of, jobs_of as jobs_of_desk}
 use Rattle.ckr_desk_turn.specs.Units.{unit_end}

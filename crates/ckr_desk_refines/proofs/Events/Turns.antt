@@ -28,7 +28,7 @@ use Rattle.ckr_desk_refines.specs.Standing.{OwnStands, StandsBut, StandsForDesk}
 use Rattle.ckr_desk_turn.specs.Model.Cards.{kept_of_stored}
 use Rattle.ckr_desk_turn.specs.declared.plan.Plan.{Plan}
 use Rattle.ckr_desk_turn.specs.declared.plan.Plan.TheVariants.{Rest, Tell, Work, Pass, Take, Ask, Wait}
-use Rattle.ckr_desk_turn.specs.declared.reply.Reply.{Reply}
+use Rattle.ckr_points.specs.declared.reply.Reply.{Reply}
 use Rattle.ckr_desk_turn.specs.Desk.{DeskModel, behind, done_by, jobs_of, purged, released, submitted, waiting}
 use Rattle.ckr_desk_turn.specs.Inquiries.{decide}
 use Rattle.ckr_volumes.specs.declared.layout.Layout.{Layout}

@@ -16,7 +16,7 @@ use Rattle.ckr_desk_turn.specs.Plans.{chosen_plan, fail_plan, free_plan, is_with
 use Rattle.ckr_desk_turn.specs.declared.failed_run.FailedRun.{FailedRun}
 use Rattle.ckr_desk_turn.specs.declared.plan.Plan.{Plan}
 use Rattle.ckr_desk_turn.specs.declared.plan.Plan.TheVariants.{Rest}
-use Rattle.ckr_desk_turn.specs.declared.reply.Reply.TheVariants.{Idle, NothingToFail}
+use Rattle.ckr_points.specs.declared.reply.Reply.TheVariants.{Idle, NothingToFail}
 use Rattle.ckr_desk_turn.specs.declared.reply.Turn.{Turn}
 use Rattle.ckr_volumes.specs.declared.layout.Layout.{Layout}
 

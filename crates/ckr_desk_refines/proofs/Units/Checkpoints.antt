@@ -11,7 +11,7 @@ use Rattle.ckr_desk_turn.specs.Turns.{carried_out, IsMountedTurnOf, MountedTurn,
 use Rattle.ckr_desk_turn.specs.Invariant.{Keeps}
 use Rattle.ckr_desk_turn.specs.declared.plan.Plan.{Plan}
 use Rattle.ckr_desk_turn.specs.declared.plan.Plan.TheVariants.{Pass}
-use Rattle.ckr_desk_turn.specs.declared.reply.Reply.{Reply}
+use Rattle.ckr_points.specs.declared.reply.Reply.{Reply}
 use Rattle.ckr_desk_turn.proofs.Turns.Initiator.{turn-keeps}
 use Rattle.ckr_desk_refines.specs.Standing.{AllStand, PointsStand, StandsForDesk, StandsForStep, differ}
 use Rattle.ckr_desk_refines.specs.Unit.{HasPassed}

@@ -38,7 +38,7 @@ use Rattle.ckr_desk_turn.specs.Jobs.{effect_entry}
 use Rattle.ckr_desk_turn.specs.declared.inquiry.Inquiry.{Inquiry}
 use Rattle.ckr_desk_turn.specs.declared.plan.Plan.{Plan}
 use Rattle.ckr_desk_turn.specs.declared.plan.Plan.TheVariants.{Rest, Wait}
-use Rattle.ckr_desk_turn.specs.declared.reply.Reply.TheVariants.{AwaitingReply}
+use Rattle.ckr_points.specs.declared.reply.Reply.TheVariants.{AwaitingReply}
 use Rattle.ckr_desk_turn.specs.Turns.{MountedTurn}
 use Rattle.ckr_desk_turn.specs.Units.{StepProgress, unit_end}
 use Rattle.ckr_volumes.specs.declared.layout.Layout.{Layout}

@@ -56,7 +56,7 @@ use Rattle.ckr_desk_turn.specs.Codes.{asked_at_entry, ended_by, initiator_of, in
 use Rattle.ckr_desk_turn.specs.Inquiries.{decide}
 use Rattle.ckr_desk_turn.specs.declared.plan.Plan.{Plan}
 use Rattle.ckr_desk_turn.specs.declared.plan.Plan.TheVariants.{Ask, Rest, Wait, Work}
-use Rattle.ckr_desk_turn.specs.declared.reply.Reply.TheVariants.{AwaitingReply}
+use Rattle.ckr_points.specs.declared.reply.Reply.TheVariants.{AwaitingReply}
 use Rattle.ckr_desk_turn.specs.Turns.{MountedTurn, plan_for}
 use Rattle.ckr_desk_turn.specs.Desk.{DeskModel, TurnDone, jobs_of, seen, seen_from, with_progress, work_of}
 use Rattle.ckr_desk_turn.specs.Jobs.{TurnStep, as_stopped, effect_entry}

@@ -23,7 +23,7 @@ use Rattle.ckr_steps.specs.Units.{due_of, taken_of}
 use Rattle.ckr_desk_turn.specs.Desk.{DeskModel, TurnDone, done_by, jobs_of, seen, seen_from, unit_done, with_progress, work_of}
 use Rattle.ckr_desk_turn.specs.declared.plan.Plan.{Plan}
 use Rattle.ckr_desk_turn.specs.declared.plan.Plan.TheVariants.{Rest, Tell}
-use Rattle.ckr_desk_turn.specs.declared.reply.Reply.TheVariants.{Worked as WorkedReply}
+use Rattle.ckr_points.specs.declared.reply.Reply.TheVariants.{Worked as WorkedReply}
 use Rattle.ckr_desk_turn.specs.Turns.{MountedTurn}
 use Rattle.ckr_desk_turn.specs.Inquiries.{decide, is_ask}
 use Rattle.ckr_desk_turn.specs.Jobs.{TurnStep, as_stopped, step_name_of}

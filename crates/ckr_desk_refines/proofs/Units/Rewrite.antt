@@ -57,7 +57,7 @@ use Rattle.ckr_steps.specs.Writes.{IsShown, is_behind, rewrite_first, rewrite_in
 use Rattle.ckr_desk_turn.specs.Desk.{DeskModel, jobs_of, unit_done, with_progress, work_of}
 use Rattle.ckr_desk_turn.specs.declared.plan.Plan.{Plan}
 use Rattle.ckr_desk_turn.specs.declared.plan.Plan.TheVariants.{Tell}
-use Rattle.ckr_desk_turn.specs.declared.reply.Reply.TheVariants.{Worked as WorkedReply}
+use Rattle.ckr_points.specs.declared.reply.Reply.TheVariants.{Worked as WorkedReply}
 use Rattle.ckr_desk_turn.specs.Turns.{MountedTurn}
 use Rattle.ckr_desk_turn.specs.Jobs.{TurnStep, step_name_of}
 use Rattle.ckr_desk_turn.specs.Units.{UnitEnd, arrived, finished_by, first_rewrite, unit_end, updated_lrecl, went}

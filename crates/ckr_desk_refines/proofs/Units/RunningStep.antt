@@ -13,7 +13,7 @@ use Rattle.ckr_steps.specs.Places.{ShowsWithin, IsStepPlace}
 use Rattle.ckr_steps.specs.Units.{is_cancelled, is_checkpointed}
 use Rattle.ckr_desk_turn.specs.Desk.{DeskModel, DeskStep, done_by, jobs_of, progress_of, progress_unless, start_of, unit_done, work_of}
 use Rattle.ckr_desk_turn.specs.declared.plan.Plan.TheVariants.{Rest, Work}
-use Rattle.ckr_desk_turn.specs.declared.reply.Reply.TheVariants.{Idle}
+use Rattle.ckr_points.specs.declared.reply.Reply.TheVariants.{Idle}
 use Rattle.ckr_desk_turn.specs.Turns.{MountedTurn, plan_for}
 use Rattle.ckr_desk_turn.specs.Units.{StepProgress, UnitEnd, unit_end}
 use Rattle.ckr_volumes.specs.declared.layout.Layout.{Layout}

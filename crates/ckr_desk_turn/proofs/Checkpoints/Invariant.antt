@@ -14,7 +14,7 @@ use Rattle.ckr_points.specs.Rows.{EffectPoint, RunRow, TablesModel, run_of}
 use Rattle.ckr_points.specs.Tables.{fresh_effect, is_checkpoints, name_with_role}
 use Rattle.ckr_points_invariant.proofs.Holders.Rows.{run-other}
 use Rattle.ckr_rules.specs.RuleTables.{suppresses}
-use Rattle.ckr_desk_turn.specs.declared.reply.Chkpt.{Chkpt}
+use Rattle.ckr_points.specs.declared.reply.Chkpt.{Chkpt}
 use Rattle.ckr_desk_turn.specs.Checkpoints.{MayCheckpoint, checkpoint_fits, checkpoint_try, checkpoint_unless, checkpointed_by, office_behind, written_event}
 use Rattle.ckr_desk_turn.specs.declared.failed_run.FailedRun.{FailedRun}
 use Rattle.ckr_desk_turn.specs.Desk.{DeskModel, DeskStep, behind as desk_behind, checkpoint_done, progress_of, with_progress, without_run}

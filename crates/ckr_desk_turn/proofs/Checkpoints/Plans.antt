@@ -16,8 +16,8 @@ use Rattle.ckr_points.specs.RuleCases.{rd_in_effect}
 use Rattle.ckr_points.specs.Rows.{RunRow, step_of_run}
 use Rattle.ckr_rules.specs.RuleTables.{suppresses}
 use Rattle.ckr_desk_turn.specs.declared.plan.Plan.TheVariants.{Rest, Take}
-use Rattle.ckr_desk_turn.specs.declared.reply.Chkpt.TheVariants.{Suppressed}
-use Rattle.ckr_desk_turn.specs.declared.reply.Reply.TheVariants.{Checkpointed as CheckpointedReply, Idle}
+use Rattle.ckr_points.specs.declared.reply.Chkpt.TheVariants.{Suppressed}
+use Rattle.ckr_points.specs.declared.reply.Reply.TheVariants.{Checkpointed as CheckpointedReply, Idle}
 use Rattle.ckr_desk_turn.specs.Checkpoints.{ServedTurn, checkpoint_turn, checkpoint_unless}
 use Rattle.ckr_desk_turn.specs.Desk.{DeskModel, DeskStep, TurnDone, behind, cancel_done, checkpoint_done, done_by, jobs_of, progress_of, progress_unless, seen_from, start_of, with_change, with_progress, without_run}
 use Rattle.ckr_desk_turn.specs.Due.{next_due}

@@ -24,10 +24,10 @@ use Rattle.ckr_desk_turn.proofs.Definitions.{turns_open}
 use Rattle.ckr_desk_turn.proofs.Examples.Decks.{checkpointed, copy, deck, sixty}
 use Rattle.ckr_desk_turn.proofs.Examples.Tables.{ended, in_one, selected, started, step_ended, submitted}
 use Rattle.ckr_desk_turn.specs.Checkpoints.{ServedTurn, checkpoint_event, checkpoint_fits, checkpoint_turn, entry_bytes, id_by, next_entry}
-use Rattle.ckr_desk_turn.specs.declared.reply.Chkpt.{Chkpt}
-use Rattle.ckr_desk_turn.specs.declared.reply.Chkpt.TheVariants.{Done, NotWritten, Suppressed}
-use Rattle.ckr_desk_turn.specs.declared.reply.Reply.{Reply}
-use Rattle.ckr_desk_turn.specs.declared.reply.Reply.TheVariants.{Checkpointed as CheckpointedReply}
+use Rattle.ckr_points.specs.declared.reply.Chkpt.{Chkpt}
+use Rattle.ckr_points.specs.declared.reply.Chkpt.TheVariants.{Done, NotWritten, Suppressed}
+use Rattle.ckr_points.specs.declared.reply.Reply.{Reply}
+use Rattle.ckr_points.specs.declared.reply.Reply.TheVariants.{Checkpointed as CheckpointedReply}
 use Rattle.ckr_desk_turn.specs.Desk.{start_of}
 use Rattle.ckr_desk_turn.specs.Due.{next_due}
 use Rattle.ckr_desk_turn.specs.EntryStates.{checkpoint_state}

@@ -5,10 +5,10 @@ use Rattle.ckr_jcl_decks.proofs.Definitions.{decks_open}
 use Rattle.ckr_meaning.proofs.Definitions.{jobs_open}
 use Rattle.ckr_points.specs.Freshness.{named_denial, plain_denial}
 use Rattle.ckr_rules.specs.declared.cases.Rule.TheVariants.{A1, D1, D3, D7, D9}
-use Rattle.ckr_desk_turn.specs.declared.reply.Chkpt.TheVariants.{Done}
-use Rattle.ckr_desk_turn.specs.declared.reply.How.TheVariants.{Abended, Completed}
-use Rattle.ckr_desk_turn.specs.declared.reply.Reply.{Reply}
-use Rattle.ckr_desk_turn.specs.declared.reply.Reply.TheVariants.{Checkpointed, DeniedRestart, Idle, JobEnded, Restarted, Selected, Started, StepEnded, Worked}
+use Rattle.ckr_points.specs.declared.reply.Chkpt.TheVariants.{Done}
+use Rattle.ckr_points.specs.declared.reply.How.TheVariants.{Abended, Completed}
+use Rattle.ckr_points.specs.declared.reply.Reply.{Reply}
+use Rattle.ckr_points.specs.declared.reply.Reply.TheVariants.{Checkpointed, DeniedRestart, Idle, JobEnded, Restarted, Selected, Started, StepEnded, Worked}
 use Rattle.ckr_desk_turn.specs.Desk.{DeskModel}
 use Rattle.ckr_desk_turn.specs.EntryStates.{checkpoint_state}
 use Rattle.ckr_desk_turn.specs.Turns.{desk_after, replies_of}

@@ -13,7 +13,7 @@ use Rattle.ckr_points.specs.Payload.{carries}
 use Rattle.ckr_points.specs.Office.{no_office}
 use Rattle.ckr_points.specs.Rows.{TableSet}
 use Rattle.ckr_points.specs.Soundness.{may_come}
-use Rattle.ckr_desk_turn.specs.declared.reply.Reply.{Reply}
+use Rattle.ckr_points.specs.declared.reply.Reply.{Reply}
 use Rattle.ckr_desk_turn.specs.declared.taking.Taking.TheVariants.{Taken}
 use Rattle.ckr_desk_turn.specs.Desk.{DeskModel, TurnDone, opened, submitted}
 use Rattle.ckr_desk_turn.specs.Turns.{AnsweredTurn, desk_after, replies_of, turn_of}

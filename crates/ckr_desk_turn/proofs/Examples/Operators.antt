@@ -14,8 +14,8 @@ use Rattle.ckr_points.specs.declared.run.RunState.TheVariants.{Held, Released}
 use Rattle.ckr_points.specs.Office.{model_records}
 use Rattle.ckr_points.specs.Rows.{run_of}
 use Rattle.ckr_rules.specs.declared.cases.Rule.TheVariants.{A6}
-use Rattle.ckr_desk_turn.specs.declared.reply.How.TheVariants.{Abended}
-use Rattle.ckr_desk_turn.specs.declared.reply.Reply.TheVariants.{AwaitingReply, Idle, JobEnded, JobHeld, NothingToFail, Selected}
+use Rattle.ckr_points.specs.declared.reply.How.TheVariants.{Abended}
+use Rattle.ckr_points.specs.declared.reply.Reply.TheVariants.{AwaitingReply, Idle, JobEnded, JobHeld, NothingToFail, Selected}
 use Rattle.ckr_desk_turn.specs.Desk.{DeskModel, released}
 use Rattle.ckr_desk_turn.specs.EntryStates.{checkpoint_state}
 use Rattle.ckr_desk_turn.specs.Turns.{AnsweredTurn, desk_after, replies_of}

@@ -18,10 +18,10 @@ use Rattle.ckr_points.specs.Soundness.{may_come}
 use Rattle.ckr_rules.specs.declared.cases.Rule.TheVariants.{A1, A2, A3, A5}
 use Rattle.ckr_rules.specs.declared.cases.Verdict.{Verdict}
 use Rattle.ckr_rules.specs.declared.cases.Verdict.TheVariants.{Step, Checkpoint, Denied}
-use Rattle.ckr_desk_turn.specs.declared.reply.Chkpt.TheVariants.{Done, Suppressed}
-use Rattle.ckr_desk_turn.specs.declared.reply.How.TheVariants.{Completed, Abended}
-use Rattle.ckr_desk_turn.specs.declared.reply.Reply.{Reply}
-use Rattle.ckr_desk_turn.specs.declared.reply.Reply.TheVariants.{Idle, Selected, Started, Worked, Checkpointed as CheckpointedReply, Cancelled, StepEnded, Restarted as RestartedReply, JobEnded}
+use Rattle.ckr_points.specs.declared.reply.Chkpt.TheVariants.{Done, Suppressed}
+use Rattle.ckr_points.specs.declared.reply.How.TheVariants.{Completed, Abended}
+use Rattle.ckr_points.specs.declared.reply.Reply.{Reply}
+use Rattle.ckr_points.specs.declared.reply.Reply.TheVariants.{Idle, Selected, Started, Worked, Checkpointed as CheckpointedReply, Cancelled, StepEnded, Restarted as RestartedReply, JobEnded}
 use Rattle.ckr_desk_turn.specs.Codes.{verdict_for}
 use Rattle.ckr_desk_turn.specs.Desk.{DeskModel, behind as behind_event}
 use Rattle.ckr_desk_turn.specs.EntryStates.{checkpoint_state}

@@ -9,10 +9,10 @@ use Rattle.ckr_base.specs.Columns.{fitted}
 use Rattle.ckr_points.specs.Office.{model_records}
 use Rattle.ckr_rules.specs.declared.cases.Rule.TheVariants.{A2}
 use Rattle.ckr_points_library.specs.declared.cause.Cause.TheVariants.{Exists}
-use Rattle.ckr_desk_turn.specs.declared.reply.Chkpt.TheVariants.{Done, Suppressed}
-use Rattle.ckr_desk_turn.specs.declared.reply.How.TheVariants.{Completed, Abended, Allocation}
-use Rattle.ckr_desk_turn.specs.declared.reply.Reply.{Reply}
-use Rattle.ckr_desk_turn.specs.declared.reply.Reply.TheVariants.{Idle, Selected, Started, Worked, Checkpointed, Cancelled, StepEnded, JobEnded}
+use Rattle.ckr_points.specs.declared.reply.Chkpt.TheVariants.{Done, Suppressed}
+use Rattle.ckr_points.specs.declared.reply.How.TheVariants.{Completed, Abended, Allocation}
+use Rattle.ckr_points.specs.declared.reply.Reply.{Reply}
+use Rattle.ckr_points.specs.declared.reply.Reply.TheVariants.{Idle, Selected, Started, Worked, Checkpointed, Cancelled, StepEnded, JobEnded}
 use Rattle.ckr_desk_turn.specs.Desk.{DeskModel}
 use Rattle.ckr_desk_turn.specs.EntryStates.{checkpoint_state}
 use Rattle.ckr_desk_turn.specs.Turns.{replies_of}

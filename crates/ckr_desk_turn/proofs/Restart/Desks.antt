@@ -16,7 +16,7 @@ use Rattle.ckr_rules.specs.RuleTables.{rule_number}
 use Rattle.ckr_rules.specs.declared.cases.Rule.{Rule}
 use Rattle.ckr_rules.specs.declared.cases.Verdict.TheVariants.{Checkpoint, Step}
 use Rattle.ckr_desk_turn.specs.declared.plan.Plan.TheVariants.{Tell}
-use Rattle.ckr_desk_turn.specs.declared.reply.Reply.{Reply}
+use Rattle.ckr_points.specs.declared.reply.Reply.{Reply}
 use Rattle.ckr_desk_turn.specs.Codes.{initiator_of, reached_by, verdict_for}
 use Rattle.ckr_desk_turn.specs.Desk.{DeskModel, DeskStep, at_entry, behind, done_by, jobs_of, without_run}
 use Rattle.ckr_desk_turn.specs.Invariant.{IsDesk, Keeps, is_accounted}

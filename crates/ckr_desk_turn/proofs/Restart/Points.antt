@@ -21,8 +21,8 @@ use Rattle.ckr_points_invariant.proofs.Steps.Commits.{IsRunning}
 use Rattle.ckr_rules.specs.declared.cases.Verdict.TheVariants.{Step}
 use Rattle.ckr_desk_turn.specs.declared.plan.Plan.{Plan}
 use Rattle.ckr_desk_turn.specs.declared.plan.Plan.TheVariants.{Tell}
-use Rattle.ckr_desk_turn.specs.declared.reply.How.TheVariants.{Completed}
-use Rattle.ckr_desk_turn.specs.declared.reply.Reply.TheVariants.{JobEnded}
+use Rattle.ckr_points.specs.declared.reply.How.TheVariants.{Completed}
+use Rattle.ckr_points.specs.declared.reply.Reply.TheVariants.{JobEnded}
 use Rattle.ckr_desk_turn.specs.Codes.{code_plan, initiator_of, reached_by}
 use Rattle.ckr_desk_turn.specs.Desk.{DeskModel, DeskStep, at_entry, behind, jobs_of, progress_of, progress_unless, running_again, seen_step, without_mark, without_run}
 use Rattle.ckr_desk_turn.specs.declared.failed_run.FailedRun.{FailedRun}

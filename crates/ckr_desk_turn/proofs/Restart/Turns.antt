@@ -15,7 +15,7 @@ use Rattle.ckr_rules.specs.declared.cases.Verdict.{Verdict}
 use Rattle.ckr_rules.specs.declared.cases.Verdict.TheVariants.{Checkpoint, Denied, Step}
 use Rattle.ckr_desk_turn.specs.declared.plan.Plan.{Plan}
 use Rattle.ckr_desk_turn.specs.declared.plan.Plan.TheVariants.{Rest}
-use Rattle.ckr_desk_turn.specs.declared.reply.Reply.TheVariants.{NothingToFail}
+use Rattle.ckr_points.specs.declared.reply.Reply.TheVariants.{NothingToFail}
 use Rattle.ckr_desk_turn.specs.Codes.{CodePlaceModel, asked_at_entry, asked_at_start, code_plan, ended_by, initiator_of, judged_plan, reached_by, running_reached, verdict_for}
 use Rattle.ckr_desk_turn.specs.Desk.{DeskModel, TurnDone, answered, done_by, jobs_of, seen, unit_done, with_progress}
 use Rattle.ckr_desk_turn.specs.Jobs.{effect_entry, is_failed, waiting_code}

@@ -8,7 +8,7 @@ use Rattle.ckr_points.specs.Office.{Office}
 use Rattle.ckr_points.specs.Rows.{RunRow}
 use Rattle.ckr_desk_turn.specs.declared.plan.Plan.{Plan}
 use Rattle.ckr_desk_turn.specs.declared.plan.Plan.TheVariants.{Rest}
-use Rattle.ckr_desk_turn.specs.declared.reply.Reply.TheVariants.{Idle}
+use Rattle.ckr_points.specs.declared.reply.Reply.TheVariants.{Idle}
 use Rattle.ckr_desk_turn.specs.Codes.{code_plan, initiator_of, reached_by}
 use Rattle.ckr_desk_turn.specs.Desk.{DeskModel, DeskStep, jobs_of, progress_of, seen, seen_from, seen_step, start_in_run}
 use Rattle.ckr_desk_turn.specs.Due.{next_due}

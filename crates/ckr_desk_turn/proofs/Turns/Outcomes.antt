@@ -33,7 +33,7 @@ use Rattle.ckr_points_invariant.proofs.WaitingRuns.{follows-of, tested-run}
 use Rattle.ckr_volumes.specs.declared.layout.Layout.{Layout}
 use Rattle.ckr_desk_turn.specs.declared.plan.Plan.{Plan}
 use Rattle.ckr_desk_turn.specs.declared.plan.Plan.TheVariants.{Rest, Tell, Work, Pass, Take, Ask, Wait}
-use Rattle.ckr_desk_turn.specs.declared.reply.Reply.TheVariants.{Idle}
+use Rattle.ckr_points.specs.declared.reply.Reply.TheVariants.{Idle}
 use Rattle.ckr_desk_turn.specs.Checkpoints.{checkpoint_turn}
 use Rattle.ckr_desk_turn.specs.Desk.{DeskModel, TurnDone, done_by, jobs_of, progress_of, start_of, unit_done, with_progress, work_of}
 use Rattle.ckr_desk_turn.specs.Inquiries.{decided}

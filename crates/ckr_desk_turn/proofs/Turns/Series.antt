@@ -9,7 +9,7 @@ use Rattle.ckr_points.specs.Rows.{RunRow, run_of}
 use Rattle.ckr_points_invariant.specs.Invariant.{IsKept}
 use Rattle.ckr_desk_turn.specs.declared.plan.Plan.{Plan}
 use Rattle.ckr_desk_turn.specs.declared.plan.Plan.TheVariants.{Rest, Tell, Work, Pass, Take, Ask, Wait}
-use Rattle.ckr_desk_turn.specs.declared.reply.Reply.TheVariants.{Idle}
+use Rattle.ckr_points.specs.declared.reply.Reply.TheVariants.{Idle}
 use Rattle.ckr_desk_turn.specs.Checkpoints.{checkpoint_turn}
 use Rattle.ckr_desk_turn.specs.Desk.{DeskModel, done_by, jobs_of, progress_of, start_of, unit_done, with_progress, work_of}
 use Rattle.ckr_desk_turn.specs.Inquiries.{decided}

@@ -20,7 +20,7 @@ use Rattle.ckr_points.specs.Rows.{RunRow, run_of}
 use Rattle.ckr_desk_turn.specs.declared.failed_run.FailedRun.{FailedRun}
 use Rattle.ckr_desk_turn.specs.declared.plan.Plan.{Plan}
 use Rattle.ckr_desk_turn.specs.declared.plan.Plan.TheVariants.{Rest}
-use Rattle.ckr_desk_turn.specs.declared.reply.Reply.TheVariants.{Idle, NothingToFail}
+use Rattle.ckr_points.specs.declared.reply.Reply.TheVariants.{Idle, NothingToFail}
 use Rattle.ckr_desk_turn.specs.Codes.{code_plan, initiator_of, reached_by}
 use Rattle.ckr_desk_turn.specs.Desk.{DeskModel, DeskStep, jobs_of, progress_of, progress_unless, seen_from, work_of}
 use Rattle.ckr_desk_turn.specs.Due.{next_due, rc_by}

@@ -18,7 +18,7 @@ use Rattle.ckr_points.specs.Payload.{lengths_at, rewrites_nothing}
 use Rattle.ckr_points.specs.Rows.{RunRow, TablesModel, run_of}
 use Rattle.ckr_rules.specs.RuleTables.{rule_number}
 use Rattle.ckr_desk_turn.specs.declared.plan.Plan.TheVariants.{Tell}
-use Rattle.ckr_desk_turn.specs.declared.reply.Reply.{Reply}
+use Rattle.ckr_points.specs.declared.reply.Reply.{Reply}
 use Rattle.ckr_desk_turn.specs.Codes.{CodePlaceModel, code_plan, initiator_of, running_reached}
 use Rattle.ckr_desk_turn.specs.Desk.{DeskModel, DeskStep, answered, at_entry, behind as desk_behind, done_by, running_again, running_behind, unit_done, with_progress, without_run}
 use Rattle.ckr_desk_turn.specs.Units.{StepProgress, went, abended}

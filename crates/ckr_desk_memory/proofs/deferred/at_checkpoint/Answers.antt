@@ -4,7 +4,7 @@ use Rattle.ckr_points.specs.Rows.{KeptEntry}
 use Rattle.ckr_points_follows.specs.Model.Wanted.{wanted_in}
 use Rattle.ckr_points_tables.specs.Entries.{entry_in}
 use Rattle.ckr_desk_turn.specs.declared.plan.Plan.TheVariants.{Rest}
-use Rattle.ckr_desk_turn.specs.declared.reply.Reply.TheVariants.{Idle}
+use Rattle.ckr_points.specs.declared.reply.Reply.TheVariants.{Idle}
 use Rattle.ckr_desk_turn.specs.Deferred.{continued_at_entry}
 use Rattle.ckr_desk_memory.proofs.deferred.at_checkpoint.Goals as goal
 

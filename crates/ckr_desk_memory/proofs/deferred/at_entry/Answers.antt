@@ -6,7 +6,7 @@ use Rattle.ckr_points_follows.specs.Model.Wanted.{wanted_in}
 use Rattle.ckr_points_tables.specs.Entries.{entry_in}
 use Rattle.ckr_desk_turn.specs.declared.plan.Plan.{Plan}
 use Rattle.ckr_desk_turn.specs.declared.plan.Plan.TheVariants.{Tell}
-use Rattle.ckr_desk_turn.specs.declared.reply.Reply.TheVariants.{Restarted}
+use Rattle.ckr_points.specs.declared.reply.Reply.TheVariants.{Restarted}
 use Rattle.ckr_desk_memory.proofs.deferred.at_entry.Goals as goal
 
 pub returns-clause-plan : goal.returns-clause-plan

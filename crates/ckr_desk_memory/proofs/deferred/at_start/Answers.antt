@@ -3,7 +3,7 @@ use Rattle.ckr_events.specs.declared.event.Event.TheVariants.{Selected as Select
 use Rattle.ckr_points.specs.Denials.{earlier_number, wanted_name}
 use Rattle.ckr_points_follows.specs.Model.Wanted.{wanted_in}
 use Rattle.ckr_desk_turn.specs.declared.plan.Plan.TheVariants.{Tell}
-use Rattle.ckr_desk_turn.specs.declared.reply.Reply.TheVariants.{Restarted}
+use Rattle.ckr_points.specs.declared.reply.Reply.TheVariants.{Restarted}
 use Rattle.ckr_desk_memory.proofs.deferred.at_start.Goals as goal
 
 pub returns-clause-plan : goal.returns-clause-plan

@@ -6,7 +6,7 @@ use Rattle.ckr_jcl.specs.declared.deck.Job.{Job}
 use Rattle.ckr_points.specs.Rows.{RunRow, run_of}
 use Rattle.ckr_points_follows.specs.Model.Runs.{row_now}
 use Rattle.ckr_desk_turn.specs.declared.plan.Plan.TheVariants.{Tell}
-use Rattle.ckr_desk_turn.specs.declared.reply.Reply.TheVariants.{Selected}
+use Rattle.ckr_points.specs.declared.reply.Reply.TheVariants.{Selected}
 use Rattle.ckr_desk_turn.specs.Deferred.{queued_plan}
 use Rattle.ckr_desk_memory.proofs.deferred.queued_plan.Goals as goal
 

@@ -1,7 +1,7 @@
 use Rattle.std.proofs.Common.{ap, ◌∙◌}
 use Rattle.ckr_events.specs.declared.event.Event.TheVariants.{Cancelled as CancelledEvent}
 use Rattle.ckr_desk_turn.specs.declared.plan.Plan.TheVariants.{Tell}
-use Rattle.ckr_desk_turn.specs.declared.reply.Reply.TheVariants.{Cancelled}
+use Rattle.ckr_points.specs.declared.reply.Reply.TheVariants.{Cancelled}
 use Rattle.ckr_desk_memory.proofs.plan.cancelled.Goals as goal
 
 pub returns-clause-plan : goal.returns-clause-plan

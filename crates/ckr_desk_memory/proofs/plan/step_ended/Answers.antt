@@ -2,7 +2,7 @@ use Rattle.std.proofs.Common.{◌≡◌, ◌≤◌, ap, sym, ◌∙◌, subst, L
 use Rattle.ckr_events.specs.declared.event.Event.TheVariants.{StepEnded as StepEndedEvent}
 use Rattle.ckr_points.specs.Restart.{place_of, step_in}
 use Rattle.ckr_desk_turn.specs.declared.plan.Plan.TheVariants.{Tell}
-use Rattle.ckr_desk_turn.specs.declared.reply.Reply.TheVariants.{StepEnded}
+use Rattle.ckr_points.specs.declared.reply.Reply.TheVariants.{StepEnded}
 use Rattle.ckr_desk_turn.specs.Jobs.{step_name_of}
 use Rattle.ckr_desk_memory.specs.Plans.{row_for}
 use Rattle.ckr_desk_memory.proofs.Plans.{own-above}

@@ -1,7 +1,7 @@
 use Rattle.std.proofs.Common.{ap, None}
 use Rattle.ckr_desk_turn.specs.declared.plan.Plan.TheVariants.{Pass}
-use Rattle.ckr_desk_turn.specs.declared.reply.Chkpt.TheVariants.{Suppressed}
-use Rattle.ckr_desk_turn.specs.declared.reply.Reply.TheVariants.{Checkpointed}
+use Rattle.ckr_points.specs.declared.reply.Chkpt.TheVariants.{Suppressed}
+use Rattle.ckr_points.specs.declared.reply.Reply.TheVariants.{Checkpointed}
 use Rattle.ckr_desk_memory.proofs.plan.suppressed.Goals as goal
 
 pub returns-clause-plan : goal.returns-clause-plan

@@ -4,7 +4,7 @@ use Rattle.ckr_base.proofs.Options.{is_some-from, some-not-none}
 use Rattle.ckr_meaning.specs.EffectiveJob.{OwnedStep, step_at}
 use Rattle.ckr_points.specs.Follows.{own_step}
 use Rattle.ckr_points.specs.Restart.{place_of, step_in}
-use Rattle.ckr_desk_turn.specs.declared.reply.Reply.TheVariants.{Worked}
+use Rattle.ckr_points.specs.declared.reply.Reply.TheVariants.{Worked}
 use Rattle.ckr_desk_turn.specs.Jobs.{step_name_of}
 use Rattle.ckr_points_tables.specs.RunJobs.{effective}
 use Rattle.ckr_desk_memory.specs.Plans.{row_for}

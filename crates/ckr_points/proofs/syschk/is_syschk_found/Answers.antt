@@ -6,7 +6,7 @@ use Rattle.ckr_library.specs.declared.sets.DataSet.{DataSet}
 use Rattle.ckr_points.specs.RuleCases.{syschk_found}
 use Rattle.ckr_points.specs.Soundness.{serials}
 use Rattle.ckr_points.specs.Staleness.{bare_set}
-use Rattle.ckr_uses.specs.Uses.{written_name}
+use Rattle.ckr_meaning.specs.SetUses.Uses.{written_name}
 use Rattle.ckr_points.proofs.SyschkSets.{syschk-found}
 use Rattle.ckr_points.proofs.syschk.is_syschk_found.Goals as goal
 

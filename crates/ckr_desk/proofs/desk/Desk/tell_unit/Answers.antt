@@ -20,7 +20,7 @@ use Rattle.ckr_desk.specs.Turn.{AnswerStands, asks}
 use Rattle.ckr_desk.specs.Units.{HasTurned}
 use Rattle.ckr_desk.specs.declared.error.DeskError.{DeskError}
 use Rattle.ckr_console.specs.Answering.{restart_answer}
-use Rattle.ckr_desk_turn.specs.declared.reply.Reply.{Reply}
+use Rattle.ckr_points.specs.declared.reply.Reply.{Reply}
 use Rattle.ckr_desk.proofs.desk.Desk.tell_unit.Goals as goal
 
 abbrev failed : DeskError → Result Reply DeskError

@@ -5,7 +5,7 @@ use Rattle.ckr_outside.specs.Moments.{at_the_end}
 use Rattle.ckr_desk_store.specs.State.{StoreView}
 use Rattle.ckr_points_tables.specs.View.{RoomyTables}
 use Rattle.ckr_volumes.specs.declared.layout.Layout.{Layout}
-use Rattle.ckr_desk_turn.specs.declared.reply.Reply.{Reply}
+use Rattle.ckr_points.specs.declared.reply.Reply.{Reply}
 use Rattle.ckr_desk.specs.declared.error.DeskError.{DeskError}
 use Rattle.ckr_desk.proofs.Layouts.{kept-moved}
 use Rattle.ckr_desk.proofs.Units.Results.{done-after, done-cause, done-fits, done-kept, done-reply, done-told, done-trusted, unit-cause, unit-keeps, unit-takes}

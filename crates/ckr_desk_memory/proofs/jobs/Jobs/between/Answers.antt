@@ -6,8 +6,8 @@ use Rattle.ckr_library.specs.NameMaps.{EachEntry}
 use Rattle.ckr_points.specs.Rows.{TableSet, TablesModel, run_of, step_of_run}
 use Rattle.ckr_points_tables.specs.Allocation.{IsAllocation, MayAllocate, allocation_in}
 use Rattle.ckr_desk_turn.specs.declared.plan.Plan.TheVariants.{Tell}
-use Rattle.ckr_desk_turn.specs.declared.reply.How.TheVariants.{Completed}
-use Rattle.ckr_desk_turn.specs.declared.reply.Reply.TheVariants.{JobEnded, Started}
+use Rattle.ckr_points.specs.declared.reply.How.TheVariants.{Completed}
+use Rattle.ckr_points.specs.declared.reply.Reply.TheVariants.{JobEnded, Started}
 use Rattle.ckr_desk_turn.specs.Queue.{AreNumbered}
 use Rattle.ckr_desk_turn.proofs.Queue.Events.{run_number}
 use Rattle.ckr_volumes.specs.Layouts.{StandsIn}

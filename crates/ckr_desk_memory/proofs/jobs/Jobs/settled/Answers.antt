@@ -3,7 +3,7 @@ use Rattle.std.specs.Option.{is_some, option_map_or}
 use Rattle.ckr_points.specs.Restart.{place_of, step_in}
 use Rattle.ckr_points.specs.Rows.{RunRow, run_of}
 use Rattle.ckr_desk_turn.specs.declared.plan.Plan.TheVariants.{Rest}
-use Rattle.ckr_desk_turn.specs.declared.reply.Reply.TheVariants.{Idle}
+use Rattle.ckr_points.specs.declared.reply.Reply.TheVariants.{Idle}
 use Rattle.ckr_desk_turn.specs.Jobs.{is_failed, running_in, waiting_code}
 use Rattle.ckr_desk_turn.specs.Plans.{fail_plan, running_plan, system_failure}
 use Rattle.ckr_desk_memory.specs.Plans.{next_step}
