@@ -21,7 +21,7 @@ use Rattle.ckr_desk_turn.specs.declared.taking.Taking.{Taking}
 use Rattle.ckr_desk_turn.specs.declared.taking.Taking.TheVariants.{Taken}
 use Rattle.ckr_desk_store.specs.OpenImages.{event_records}
 use Rattle.ckr_desk.specs.declared.error.DeskError.{DeskError}
-use Rattle.ckr_desk.specs.declared.error.DeskError.TheVariants.{NoMemory, BookFull}
+use Rattle.ckr_desk.specs.declared.error.DeskError.TheVariants.{NoMemory, BookFull, Stopped}
 use Rattle.ckr_desk.specs.MachineRoom.{FitsUnits, behind_attempt}
 use Rattle.ckr_desk.specs.Preparation.{IsPreparedToSettle, IsTellingPlan}
 use Rattle.ckr_desk.specs.Requests.{FailsBy, came_by, spelled}
@@ -101,6 +101,11 @@ abbrev pub RoomStandsBy : AttendedDesk → Turn → MachineRoomView → DeskErro
 RoomStandsBy old turn new NoMemory = new ≡ old.machine_room
 RoomStandsBy old turn new (BookFull need room) = new ≡ room_behind_answers old turn
 RoomStandsBy old turn new _ = Unit {0}
+
+-- on any disk: where the desk had stopped nothing was asked, mounted or given up
+abbrev pub RoomStays : MachineRoomView → MachineRoomView → DeskError → Type 0
+RoomStays old new (Stopped fault) = new ≡ old
+RoomStays old new _ = Unit {0}
 
 abbrev pub RoomStands : {T : Type 0} → AttendedDesk → Turn → MachineRoomView → Result T DeskError → Type 0
 RoomStands old turn new (Ok done) = new ≡ (behind_attended old turn).machine_room

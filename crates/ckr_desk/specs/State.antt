@@ -47,10 +47,6 @@ room_left desk = room_of desk.store.book
 abbrev pub fault_of : {D : Type 0} → DeskView D → Option ℕ
 fault_of desk = desk.store.fault
 
--- what the operator in office answers, or None where nobody is in office
-abbrev pub operator_of : {D : Type 0} → DeskView D → Option Answering
-operator_of desk = desk.machine_room.operator
-
 -- the operator, and the volumes on the units
 abbrev pub machine_room_of : {D : Type 0} → DeskView D → MachineRoomView
 machine_room_of desk = desk.machine_room

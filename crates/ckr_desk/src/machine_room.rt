@@ -1,5 +1,5 @@
 //! The machine room: the console, with the operator in office, and the units, on which he mounts volumes.
-ghost use Rattle.std.specs.Prelude.{◌≡◌, ◌<◌, ◌≤◌, [], ℕ, IfSome, IsTrue, List, None, Some, length};
+ghost use Rattle.std.specs.Prelude.{◌≡◌, ◌<◌, ◌≤◌, [], ℕ, IfSome, IsTrue, List, None, Some, false, length};
 ghost use Rattle.std.specs.Option.{is_some, option_map};
 ghost use Rattle.ckr_console.specs.Answering.{answer_in_office, asked};
 ghost use Rattle.ckr_desk_turn.specs.Mounts.{asked_for, gives_up, mount_question, mounted_all};
@@ -78,11 +78,12 @@ impl<O: Operator> MachineRoom<O> {
     }
 
     /// What becomes of the volumes that a step wants, where nobody is to be asked for it: they need more units than there are, or than are free, or
-    /// all of them are on units. None where the operator is to be asked; then they need no more units than are free.
+    /// all of them are on units. None where the operator is to be asked; then they need no more units than are free, and one of them is on no unit.
     pub(crate) fn unasked(&self, layout: &Layout, volumes: &[u8]) -> Option<Taking>
         requires list { IsTrue (is_volume_list volumes.now) }
         ensures some { IfSome result (λ taking. NeedsNoQuestion layout.now volumes.now self.now taking) }
         ensures none { result ≡ None → FitsUnits layout.now volumes.now self.now }
+        ensures lacking { result ≡ None → are_mounted (units_with [] self.now.mounts) volumes.now ≡ false }
     {
         if layout.units < volumes.len() as u8 {
             return Some(Taking::Exceeds {

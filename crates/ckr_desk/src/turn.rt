@@ -3,7 +3,7 @@ ghost use Rattle.std.specs.Prelude.{◌≡◌, ◌≤◌, IfErr, IfOk, OnOk, Non
 ghost use Rattle.ckr_book.specs.Book.{room_of};
 ghost use Rattle.ckr_desk_memory.specs.Plans.{IsAnyCode, IsToldReply};
 ghost use Rattle.ckr_desk_turn.specs.Invariant.{IsTurnOf};
-ghost use Rattle.ckr_desk.specs.Attendance.{HasAttended, LacksBy, RoomStands, attended, attended_event, attended_reply, behind_attended};
+ghost use Rattle.ckr_desk.specs.Attendance.{HasAttended, LacksBy, RoomStands, RoomStays, attended, attended_event, attended_reply, behind_attended};
 ghost use Rattle.ckr_desk.specs.CallOutcomes.{HasComeTo, KeepsDesk};
 ghost use Rattle.ckr_desk.specs.NoChange.{StaysBy};
 ghost use Rattle.ckr_desk.specs.Requests.{MayFail, TellsNumbers, came_by, spelled};
@@ -42,6 +42,7 @@ impl<D: Disk, O: Operator> Desk<D, O> {
         ensures comes { IsTrusted D.told D.content D.may_leave self.old → HasComeTo D.told D.content D.may_leave (attended_event (attended D.content self.old) turn)
             (behind_attended (attended D.content self.old) turn).state self.old self.new result }
         ensures machine_room { IsTrusted D.told D.content D.may_leave self.old → RoomStands (attended D.content self.old) turn (machine_room_of self.new) result }
+        ensures room_stays { IfErr result (RoomStays (machine_room_of self.old) (machine_room_of self.new)) }
         ensures takes { IsTrusted D.told D.content D.may_leave self.old → IfErr result (LacksBy (attended D.content self.old) turn) }
         ensures full { IfErr result (TellsNumbers (room_left self.old)) }
         ensures keeps { KeepsDesk D.content D.may_leave D.faults D.size self.old self.new result }

@@ -31,3 +31,8 @@ returns-clause-none g c none =
     let volumes = c.args.volumes.now in
     let need = c.need-need.ensures.need ∙ ap (λ (room : MachineRoomView). need_of (units_with [] room.mounts) volumes) c.self.view_is in
     record { units = c.if-layout-volumes.false; free = subst (λ (one : Need). one.need ≤ one.free) need c.if-free-need.false }
+
+pub returns-clause-lacking : goal.returns-clause-lacking
+returns-clause-lacking g c none =
+    let volumes = c.args.volumes.now in
+    ap (λ (room : MachineRoomView). are_mounted (units_with [] room.mounts) volumes) (sym c.self.view_is) ∙ sym c.are_mounted.ensures.mounted ∙ c.if-are_mounted.false
