@@ -9,7 +9,7 @@ use Rattle.ckr_desk_refines.specs.Commits.{HasCommitted}
 use Rattle.ckr_desk_refines.specs.Entries.{HasEntries}
 use Rattle.ckr_outside.specs.Disk.{EachSince}
 use Rattle.ckr_points.specs.Events.{AreSound}
-use Rattle.ckr_points.specs.Office.{Office, office}
+use Rattle.ckr_points.specs.Office.{Office, no_office, office}
 use Rattle.ckr_points.specs.Restart.{Decked}
 use Rattle.ckr_points.specs.Rows.{no_tables}
 use Rattle.ckr_desk_refines.specs.Standing.{StandsForDesk, desk_seen}
@@ -48,6 +48,10 @@ desk_of_opened image (Ok opened) = Ok (record { desk = opened_desk opened.layout
 -- how the desk stands that a disk of this size opens to which reads these bytes, or the first reason why there is none
 unfoldable pub desk_opening : List ℕ → ℕ → Result RoomyDesk OpenError
 desk_opening image size = desk_of_opened image (opening_of image size)
+
+-- the desk to which a disk opens that is just formatted by a layout: there is no job, and the whole book is free
+abbrev pub fresh_desk : Layout → RoomyDesk
+fresh_desk layout = record { desk = opened_desk layout no_office; room = layout.book }
 
 -- ---- sound images
 

@@ -11,12 +11,13 @@ use Rattle.ckr_points.specs.Rows.{no_tables}
 use Rattle.ckr_desk_refines.specs.Entries.{HasEntries}
 use Rattle.ckr_desk_refines.specs.RewriteRecord.{HasCommittedAgain, HasLast, last_event}
 use Rattle.ckr_desk_store.specs.OpenImages.{event_records}
+use Rattle.ckr_desk_turn.specs.Desk.{opened as opened_desk}
 use Rattle.ckr_desk.specs.declared.error.OpenError.{OpenError}
 use Rattle.ckr_desk.specs.declared.error.OpenError.TheVariants.{BadBook}
 use Rattle.ckr_desk.specs.Entries.{bad_entry}
 use Rattle.ckr_desk.specs.Opening.{behind_records, by_book, by_end, by_entries, by_header, opened_at, opening_of, refused_or}
-use Rattle.ckr_desk.specs.Soundness.{Sound, events_in, last_on, office_on}
-use Rattle.ckr_desk.specs.State.{Opened}
+use Rattle.ckr_desk.specs.Soundness.{Sound, desk_of_opened, desk_opening, events_in, fresh_desk, last_on, office_on}
+use Rattle.ckr_desk.specs.State.{Opened, RoomyDesk}
 use Rattle.ckr_volumes.specs.declared.layout.Layout.{Layout}
 use Rattle.ckr_volumes.specs.Header.{header_of}
 
@@ -71,6 +72,13 @@ fresh_sound layout image size header none =
           (λ rewrite told. absurd (none-some rewrite told));
       entries = subst (λ (o : Office). HasEntries layout o image) back (λ name table found. absurd (none-some table found));
     }
+
+-- it opens to a desk without jobs, with the whole book free
+pub fresh-opens : (layout : Layout) (image : List ℕ) (size : ℕ) → header_of (take 512 image) size ≡ Ok layout → NoneAt (part 512 layout.book image) false → desk_opening image size ≡ Ok (fresh_desk layout)
+unfolding desk_opening
+fresh-opens layout image size header none =
+    let found : Office → Result RoomyDesk OpenError = λ o. Ok (record { desk = opened_desk layout o; room = layout.book }) in
+    ap (desk_of_opened image) (fresh_opening layout image size header none) ∙ ap found (fresh_office layout image none.records)
 
 -- each image of a disk that was formatted is what it reads
 pub fresh_image : (layout : Layout) (content image : List ℕ) (size : ℕ) → image ≡ content → header_of (take 512 content) size ≡ Ok layout → NoneAt (part 512 layout.book content) false → Sound size image
