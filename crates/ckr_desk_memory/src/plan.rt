@@ -371,10 +371,11 @@ impl Jobs {
     }
 
     /// An initiator has no run: one may come to it.
-    fn free_plan(&self, layout: &Layout, initiator: u8, fail: Option<Code>) -> Plan
-        requires jobs { AreJobs layout.now self.now }
-        ensures plan { result ≡ free_plan layout.now (jobs_of self.now) initiator fail }
+    fn free_plan(&mut self, layout: &Layout, initiator: u8, fail: Option<Code>) -> Plan
+        requires jobs { AreJobs layout.now self.old }
+        ensures plan { result ≡ free_plan layout.now (jobs_of self.old) initiator fail }
         ensures spelled { IsSpelledPlan result }
+        ensures stays { self.new ≡ self.old }
     {
         if fail.is_some() {
             return Plan::Rest(Reply::NothingToFail);

@@ -54,9 +54,11 @@ fn an_exclusive_name_waits_for_the_end(rt: HostRuntime) -> Result<(), Fail> {
         return Ok(());
     };
     assert!(rt; first == 1);
-    assert!(rt; queue.select() == Selection::Idle);
+    let next = queue.select();
+    assert!(rt; next == Selection::Idle);
     queue.end(first);
-    assert!(rt; queue.select() == Selection::Job(2));
+    let next = queue.select();
+    assert!(rt; next == Selection::Job(2));
     Ok(())
 }
 
@@ -69,7 +71,8 @@ fn a_shared_name_waits_for_nothing(rt: HostRuntime) -> Result<(), Fail> {
     queue.submit(1, use_of(rt.alloc(), b"X.A", false)?)?;
     assert!(rt; take_next(&mut queue) == Some(1));
     assert!(rt; take_next(&mut queue) == Some(2));
-    assert!(rt; queue.select() == Selection::Idle);
+    let next = queue.select();
+    assert!(rt; next == Selection::Idle);
     Ok(())
 }
 
@@ -89,10 +92,12 @@ fn a_released_run_is_next(rt: HostRuntime) -> Result<(), Fail> {
     assert!(rt; other == 3);
     assert!(rt; !queue.release(3));
     queue.hold(other);
-    assert!(rt; queue.select() == Selection::Idle);
+    let next = queue.select();
+    assert!(rt; next == Selection::Idle);
     assert!(rt; queue.release(3));
     assert!(rt; !queue.release(3));
-    assert!(rt; queue.select() == Selection::Job(3));
+    let next = queue.select();
+    assert!(rt; next == Selection::Job(3));
     assert!(rt; !queue.purge(1));
     assert!(rt; queue.purge(2));
     assert!(rt; !queue.purge(2));
@@ -112,6 +117,7 @@ fn a_held_run_goes_on(rt: HostRuntime) -> Result<(), Fail> {
     };
     hold_and_resume(&mut queue, first);
     assert!(rt; !queue.release(first));
-    assert!(rt; queue.select() == Selection::Idle);
+    let next = queue.select();
+    assert!(rt; next == Selection::Idle);
     Ok(())
 }

@@ -9,8 +9,9 @@ use Rattle.ckr_base.proofs.Numbers.{equal-itself, nat_lt-itself}
 use Rattle.ckr_base.proofs.Bools.{and-first, and-second}
 use Rattle.ckr_queue.specs.declared.entry.QueueEntry.{QueueEntry}
 use Rattle.ckr_queue.specs.declared.entry.QueueState.{QueueState}
+use Rattle.ckr_queue.specs.declared.entry.Selection.{Selection}
 use Rattle.ckr_queue.specs.declared.entry.Selection.TheVariants.{Job, Idle}
-use Rattle.ckr_queue.specs.Queue.{is_of, is_above, is_below, rises, state_of, with_entry, with_state, without, may_start, starts, may_take, selection_with, selection_of, IsLowest}
+use Rattle.ckr_queue.specs.Queue.{is_of, is_above, is_below, rises, state_of, with_entry, with_state, without, may_start, starts, may_take, selection_with, selection_of, IsLowest, MayTake}
 use Rattle.ckr_queue.proofs.Places.{in_state}
 use Rattle.ckr_queue.proofs.Order.{absent_first}
 
@@ -193,4 +194,13 @@ selection-idle entries = (λ e. none_passes (may_start entries) entries (idle_wi
 
 pub ruleset idle = (selection-idle)
 
-pub ruleset first_may_be_taken = (first-may)
+-- the run that is next may be taken
+pub next-may : (entries : List QueueEntry) (next : Selection) → IsTrue (rises entries) → next ≡ selection_of entries → MayTake entries next
+unfolding selection_of
+next-may entries next rise is = subst (MayTake entries) (sym is) (by (find (may_start entries) entries) refl)
+  where
+    by : (found : Option QueueEntry) → find (may_start entries) entries ≡ found → MayTake entries (selection_with found)
+    by None none = tt
+    by (Some entry) some = first-may entries entry rise (sym some)
+
+pub ruleset next_may_be_taken = (next-may)

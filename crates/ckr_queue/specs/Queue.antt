@@ -1,5 +1,5 @@
 -- The queue of jobs: the runs that have neither ended nor been purged, in the order of their numbers.
-use Rattle.std.specs.Prelude.{ℕ, ◌==◌, ◌&&◌, nat_lt, Bool, true, false, not, if◌then◌else◌, List, [], ◌∷◌, find, Option, None, Some, IsTrue}
+use Rattle.std.specs.Prelude.{◌≡◌, ℕ, ◌==◌, ◌&&◌, nat_lt, Bool, true, false, not, if◌then◌else◌, List, [], ◌∷◌, find, Option, None, Some, IfSome, IsTrue}
 use Rattle.std.specs.List.{list_any, list_all}
 use Rattle.std.specs.Option.{option_map}
 use Rattle.ckr_library.specs.declared.uses.Use.{Use}
@@ -83,6 +83,11 @@ selection_with (Some entry) = Job entry.number
 -- the first that may start, and so the lowest
 unfoldable pub selection_of : List QueueEntry → Selection
 selection_of entries = selection_with (find (may_start entries) entries)
+
+-- a queue as it is kept: in the order of the numbers, with the run that is next where that is known
+pub record IsQueue (entries : List QueueEntry) (next : Option Selection) : Type 0 where
+  pub rise : IsTrue (rises entries)
+  pub next_is : IfSome next (λ known. known ≡ selection_of entries)
 
 -- ---- what a call asks of a run
 

@@ -17,17 +17,20 @@ use std::marker::Model;
 #[derive(Drop)]
 pub struct Queue {
     entries: Vec<QueueEntry>,
+    /// The run that an initiator is to take, where it was asked for since a run came, went or changed its state. So one idle turn behind another
+    /// looks at no run.
+    next: Option<Selection>,
 }
 
 impl Model for Queue {
-    ghost use Rattle.std.specs.Prelude.{◌-◌, IsTrue, vec_len, vec_capacity};
-    ghost use Rattle.ckr_queue.specs.Queue.{rises, RoomyQueue};
+    ghost use Rattle.std.specs.Prelude.{◌-◌, vec_len, vec_capacity};
+    ghost use Rattle.ckr_queue.specs.Queue.{IsQueue, RoomyQueue};
 
     ghost Value = { RoomyQueue };
 
     ghost view = { λ a. record { entries = a.entries.items; room = vec_capacity a.entries - vec_len a.entries } };
 
-    ghost invariant = { λ a. IsTrue (rises a.entries.items) };
+    ghost invariant = { λ a. IsQueue a.entries.items a.next };
 }
 
 impl Queue {
@@ -37,6 +40,7 @@ impl Queue {
     {
         Queue {
             entries: Vec::new(alloc),
+            next: None,
         }
     }
 
@@ -73,22 +77,25 @@ impl Queue {
                 uses,
             },
         )?;
+        self.next = None;
         Ok(())
     }
 
     /// The lowest number that is released, or is queued and whose uses don't hold against those of a run that is selected and
-    /// hasn't ended. `Idle` exactly where there is none.
-    #[tactic(auto, using(crate::proofs::Select::first_may_be_taken), unfolding(crate::specs::Queue::selection_of))]
-    pub fn select(&self) -> Selection
-        ensures selection { result ≡ selection_of self.now.entries }
-        ensures order { IsTrue (rises self.now.entries) }
-        ensures may { MayTake self.now.entries result }
+    /// hasn't ended. `Idle` exactly where there is none. It is looked for once, until a run comes, goes or changes its state.
+    #[tactic(auto, using(crate::proofs::Select::next_may_be_taken))]
+    pub fn select(&mut self) -> Selection
+        ensures selection { result ≡ selection_of self.old.entries }
+        ensures order { IsTrue (rises self.old.entries) }
+        ensures may { MayTake self.old.entries result }
+        ensures stays { self.new ≡ self.old }
     {
-        let entries = self.entries.as_slice();
-        match first_to_start(entries) {
-            Some(entry) => Selection::Job(entry.number),
-            None => Selection::Idle,
+        if let Some(next) = self.next {
+            return next;
         }
+        let next = next_in(self.entries.as_slice());
+        self.next = Some(next);
+        next
     }
 
     /// An initiator takes a run that may start, as the one that `select` gives.
@@ -159,6 +166,7 @@ impl Queue {
     {
         if let Some(place) = place_of(self.entries.as_slice(), number) {
             self.entries[place].state = state;
+            self.next = None;
         }
     }
 
@@ -168,6 +176,7 @@ impl Queue {
     {
         if let Some(place) = place_of(self.entries.as_slice(), number) {
             self.entries.remove(place);
+            self.next = None;
         }
     }
 }
@@ -189,7 +198,6 @@ fn entry_at(entries: &[QueueEntry], place: usize) -> Option<&QueueEntry>
 }
 
 /// The place of a run, found by halving.
-
 fn place_of(entries: &[QueueEntry], number: u32) -> Option<usize>
     requires { IsTrue (rises entries.now) }
     ensures { result ≡ position (is_of number) entries.now }
@@ -208,7 +216,6 @@ fn place_of(entries: &[QueueEntry], number: u32) -> Option<usize>
 }
 
 /// The state of a run, if it is there.
-
 fn state_of(entries: &[QueueEntry], number: u32) -> Option<QueueState>
     requires { IsTrue (rises entries.now) }
     ensures { result ≡ state_of number entries.now }
@@ -230,4 +237,15 @@ fn first_to_start(entries: &[QueueEntry]) -> Option<&QueueEntry>
     ensures { option_copied result ≡ find (may_start entries.now) entries.now }
 {
     entries.iter().find(|entry| may_start(entry, entries))
+}
+
+/// The run of these that an initiator is to take.
+#[tactic(auto, unfolding(crate::specs::Queue::selection_of))]
+fn next_in(entries: &[QueueEntry]) -> Selection
+    ensures { result ≡ selection_of entries.now }
+{
+    match first_to_start(entries) {
+        Some(entry) => Selection::Job(entry.number),
+        None => Selection::Idle,
+    }
 }
