@@ -6,6 +6,7 @@ pub mod Calls
 pub mod Texts
 mod MadeStreams
 mod MadeDisks
+mod MadeEnds
 mod Records
 mod MadeRuns
 mod MadeWords

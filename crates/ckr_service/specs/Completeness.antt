@@ -4,11 +4,14 @@ use Rattle.std.specs.Str.Lines.{lines}
 use Rattle.ckr_console.specs.Answering.{Answering}
 use Rattle.ckr_outside.specs.Faults.{Rose}
 use Rattle.ckr_desk.specs.declared.error.OpenError.{OpenError}
+use Rattle.ckr_desk.specs.Soundness.{fresh_desk}
 use Rattle.ckr_desk.specs.State.{RoomyDesk}
 use Rattle.ckr_desk_format.specs.Installation.{installation_of}
 use Rattle.ckr_service.specs.Calls.{all_fit}
 use Rattle.ckr_service.specs.CallEnds.{serving_status}
 use Rattle.ckr_service.specs.Feeds.{Faults}
+use Rattle.ckr_service.specs.MadeDisk.{made_layout}
+use Rattle.ckr_service.specs.MadeStream.{made_size, made_stream}
 use Rattle.ckr_service.specs.Staff.{StaffedDesk, staffed_with}
 use Rattle.ckr_service.specs.Stream.{has_refusal, requests_of}
 
@@ -36,6 +39,21 @@ served_status state all = serving_status (Ok (has_refusal state all))
 abbrev pub CompletesRun : Result RoomyDesk OpenError → List Answering → ℕ → Faults → Option (List ℕ) → Type 0
 CompletesRun opening operators status faults source = (state : RoomyDesk) (all : List ℕ) → opening ≡ Ok state → GivesAll all source faults
     → all_fit (staffed_with operators state) (requests_of all) ≡ true → EndsOrLacks status (served_status (staffed_with operators state) all)
+
+-- neither the sink nor the disk failed meanwhile, where no source is read
+pub record NeitherFailed (sink_before sink_now disk_before disk_now : ℕ) : Type 0 where
+  pub sink : Rose sink_before sink_now → ⊥
+  pub disk : Rose disk_before disk_now → ⊥
+
+-- A stream that is there, and no longer than one may be, is served to its end on a disk that opens, and its line is written.
+abbrev pub CompletesStream : Result RoomyDesk OpenError → List Answering → List ℕ → ℕ → Type 0 → Type 0
+CompletesStream opening operators stream status works = (state : RoomyDesk) → opening ≡ Ok state → works → all_fit (staffed_with operators state) (requests_of stream) ≡ true → EndsOrLacks status 0
+
+-- A disk that tells what it holds and is large enough is formatted, and the made stream is served to its end from there, where the book has room for
+-- all of its events.
+abbrev pub CompletesMake : Type 0 → ℕ → List Answering → ℕ → ℕ → Type 0 → Type 0
+CompletesMake told size operators jobs status works =
+    told → made_size ≤ size → works → all_fit (staffed_with operators (fresh_desk made_layout)) (requests_of (made_stream jobs)) ≡ true → EndsOrLacks status 0
 
 -- the status of cards that are carried out: whether they are refused
 abbrev pub carried_status : {L E : Type 0} → Result L E → ℕ

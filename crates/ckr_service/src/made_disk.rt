@@ -18,6 +18,7 @@ pub fn format_made<D: Disk>(alloc: Global, disk: &mut D) -> FormatOutcome
     requires { made_size ≤ D.size disk.old }
     ensures so { FormatsSo D.told D.content D.may_leave D.moment D.left_since D.size D.faults result disk.old disk.new }
     ensures size { D.size disk.new ≡ D.size disk.old }
+    ensures later { D.faults disk.old ≤ D.faults disk.new }
 {
     match cards(alloc) {
         Ok(cards) => format_disk(alloc, &mut Bytes::new(cards), &mut Discard, disk),

@@ -1,8 +1,9 @@
 //! The command that formats a disk and serves the made stream on it.
 ghost use Rattle.std.specs.Prelude.{◌≡◌, ◌≤◌, Some, length, map};
-ghost use Rattle.ckr_desk.specs.Soundness.{AllSound, Sound};
+ghost use Rattle.ckr_desk.specs.Soundness.{AllSound, Sound, desk_opening};
 ghost use Rattle.ckr_outside.specs.Disk.{EachSince};
 ghost use Rattle.ckr_service.specs.CallEnds.{is_whole};
+ghost use Rattle.ckr_service.specs.Completeness.{CompletesMake, CompletesStream, NeitherFailed};
 ghost use Rattle.ckr_service.specs.Makes.{HasMade, RunsOver, TellsCounts};
 
 use crate::counts::{Counts, made_line};
@@ -54,7 +55,10 @@ fn serve_bytes<K: Sink, D: Disk, O: Operator>(
     requires few { length bytes.items ≤ 16_777_216 }
     ensures runs { RunsOver D.told D.content D.may_leave D.moment D.left_since D.size D.faults bytes.items (map O.answering operators.items) disk result.disk result.status
         (K.faults sink.old) (K.faults sink.new) (K.written sink.old) (K.written sink.new) }
+    ensures completes { AllSound D.told D.may_leave D.size disk → CompletesStream (desk_opening (D.content disk) (D.size disk)) (map O.answering operators.items) bytes.items result.status
+        (NeitherFailed (K.faults sink.old) (K.faults sink.new) (D.faults disk) (D.faults result.disk)) }
     ensures size { D.size result.disk ≡ D.size disk }
+    ensures disk_later { D.faults disk ≤ D.faults result.disk }
     ensures safe { AllSound D.told D.may_leave D.size disk → EachSince D.moment D.left_since disk result.disk (Sound (D.size disk)) }
     ensures sound { AllSound D.told D.may_leave D.size disk → AllSound D.told D.may_leave D.size result.disk }
 {
@@ -85,6 +89,8 @@ pub fn make<K: Sink, D: Disk, O: Operator>(
     requires few { jobs ≤ 1000 }
     ensures made { HasMade D.told D.content D.may_leave D.moment D.left_since D.size D.faults (map O.answering operators.items) jobs disk result.disk result.status
         (K.faults sink.old) (K.faults sink.new) (K.written sink.old) (K.written sink.new) }
+    ensures completes { CompletesMake D.told (D.size disk) (map O.answering operators.items) jobs result.status
+        (NeitherFailed (K.faults sink.old) (K.faults sink.new) (D.faults disk) (D.faults result.disk)) }
     ensures sound { D.told → result.status ≡ 0 → AllSound D.told D.may_leave D.size result.disk }
     ensures size { D.size result.disk ≡ D.size disk }
 {

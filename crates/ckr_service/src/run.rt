@@ -1,5 +1,5 @@
 //! A run: the disk is opened, and a stream is served on it.
-ghost use Rattle.std.specs.Prelude.{◌≡◌, IfSome, Ok, map, true};
+ghost use Rattle.std.specs.Prelude.{◌≡◌, ◌≤◌, IfSome, Ok, map, true};
 ghost use Rattle.ckr_desk.specs.FirstSync.{FromSync, IsLeft};
 ghost use Rattle.ckr_desk.specs.Model.OpenImages.{event_records};
 ghost use Rattle.ckr_desk.specs.Soundness.{AllSound, HasKept, Sound, desk_opening};
@@ -78,6 +78,7 @@ pub fn run<S: Source, K: Sink, D: Disk, O: Operator>(
     ensures completes { AllSound D.told D.may_leave D.size disk → CompletesRun (desk_opening (D.content disk) (D.size disk)) (map O.answering operators.items) result.status
         (faults_of (S.faults source.old) (S.faults source.new) (K.faults sink.old) (K.faults sink.new) (D.faults disk) (D.faults result.disk)) (S.left source.old) }
     ensures size { D.size result.disk ≡ D.size disk }
+    ensures disk_later { D.faults disk ≤ D.faults result.disk }
 
     // A stop at any moment leaves a sound image; and the disk that is handed back is sound as the one was that was handed in.
     ensures safe { AllSound D.told D.may_leave D.size disk → EachSince D.moment D.left_since disk result.disk (Sound (D.size disk)) }

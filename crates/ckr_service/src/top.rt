@@ -12,7 +12,7 @@ ghost use Rattle.ckr_service.specs.Feeds.{faults_of};
 ghost use Rattle.ckr_service.specs.Stops.{HasEverywhere};
 ghost use Rattle.ckr_service.specs.CallEnds.{HasFormatted, HasRun, formatting_status};
 ghost use Rattle.ckr_service.specs.Makes.{HasMade};
-ghost use Rattle.ckr_service.specs.Completeness.{CompletesFormat, CompletesRun};
+ghost use Rattle.ckr_service.specs.Completeness.{CompletesFormat, CompletesMake, CompletesRun, NeitherFailed};
 
 use crate::make::make;
 use crate::run::{Ran, run};
@@ -122,6 +122,10 @@ pub fn batch_desk<S: Source, K: Sink, D: Disk, O: Operator>(
         (faults_of (S.faults source.old) (S.faults source.new) (K.faults sink.old) (K.faults sink.new) (D.faults disk) (D.faults result.disk)) (S.left source.old) }
     ensures carries_out { command_of (map string_bytes words.now) ≡ Some Command.Format → CompletesFormat (D.size disk) result.status
         (faults_of (S.faults source.old) (S.faults source.new) (K.faults sink.old) (K.faults sink.new) (D.faults disk) (D.faults result.disk)) (S.left source.old) }
+
+    // So it is with a stream that is made: on a disk that is large enough it is served to its end, and ends with 0.
+    ensures makes { (jobs : ℕ) → command_of (map string_bytes words.now) ≡ Some (Command.Make jobs) → CompletesMake D.told (D.size disk) (map O.answering operators.items) jobs result.status
+        (NeitherFailed (K.faults sink.old) (K.faults sink.new) (D.faults disk) (D.faults result.disk)) }
 
     // Of a stream that is made: behind status 0 every image of a disk that tells what it holds is sound, so that it may be run.
     ensures made_sound { (jobs : ℕ) → command_of (map string_bytes words.now) ≡ Some (Command.Make jobs) → D.told → result.status ≡ 0 → AllSound D.told D.may_leave D.size result.disk }

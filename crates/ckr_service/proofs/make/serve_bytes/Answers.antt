@@ -1,5 +1,8 @@
-use Rattle.std.proofs.Common.{map, sym, ◌∙◌}
+use Rattle.std.proofs.Common.{Some, ap, map, sym, ◌∙◌}
 use Rattle.ckr_service.specs.Faultless.{bytes_left}
+use Rattle.ckr_service.specs.Staff.{staffed_with}
+use Rattle.ckr_service.proofs.MadeDisks.{not_rose}
+use Rattle.ckr_service.proofs.MadeEnds.{lacks-memory, line-completes}
 use Rattle.ckr_service.proofs.MadeRuns.{runs_nothing, runs_whole}
 use Rattle.ckr_service.proofs.make.serve_bytes.Goals as goal
 
@@ -17,3 +20,13 @@ returns-clause-runs g c =
     runs_whole d.told d.content d.may_leave d.moment d.left_since d.size d.faults c.args.disk r.result.disk (map g.O.Operator.answering c.args.operators.items) c.args.bytes.items (bytes_left c.new-source.result)
     (bytes_left r.new.source) r.result.status c.new-source.ensures c.requires.few r.ensures.run r.result.counts c.serving_status.result _ _ _ _ c.tell.result (sym c.is_whole.ensures ∙ c.if-not-is_whole.false)
     r.ensures.counted c.serving_status.ensures c.tell.ensures
+
+pub returns-then-not-is_whole-clause-completes : goal.returns-then-not-is_whole-clause-completes
+returns-then-not-is_whole-clause-completes g c = λ all state opens works fits.
+    let r = c.run-status in
+    let gives = record { bytes = ap Some c.new-source.ensures; few = c.requires.few; works = record { source = not_rose; sink = not_rose; disk = works.disk } } in
+    lacks-memory r.result.status (staffed_with (map g.O.Operator.answering c.args.operators.items) state) c.args.bytes.items (sym c.is_whole.ensures ∙ c.if-not-is_whole.true)
+    (r.ensures.completes all state c.args.bytes.items opens gives fits)
+
+pub returns-clause-completes : goal.returns-clause-completes
+returns-clause-completes g c = λ all state opens works fits. line-completes _ c.tell.result c.serving_status.result _ _ _ _ works.sink c.serving_status.ensures c.tell.ensures

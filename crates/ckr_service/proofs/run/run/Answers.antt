@@ -1,4 +1,4 @@
-use Rattle.std.proofs.Common.{◌∙◌, ℕ, List, map}
+use Rattle.std.proofs.Common.{◌∙◌, ◌≤◌, ℕ, List, arith, map}
 use Rattle.ckr_desk.specs.FirstSync.{FromSync, IsLeft}
 use Rattle.ckr_desk.specs.Model.Layout.{Layout}
 use Rattle.ckr_desk.specs.Model.OpenImages.{event_records}
@@ -48,6 +48,9 @@ returns-in-Ok g c =
       counted = counted_from (IsTrusted d.told d.content d.may_leave desk) (AllSound d.told d.may_leave d.size disk) (staffed_by d.content desk c.next-operator.new.self) operators (state_of d.content desk) (desk_opening (d.content disk) (d.size disk))
           outcome c.serve-outcome.result.counts _ _ _ c.serving_status.ensures e.trusted e.opened opened s.counted;
       size = s.size ∙ e.size;
+      disk_later = (let first : d.faults disk ≤ d.faults (disk_of desk) = e.never_falls in
+          let then : d.faults (disk_of desk) ≤ d.faults end = s.disk_later in
+          omega (arith, first, then));
       safe = safe;
       sound = λ all. all_sound_after d.told d.content d.may_leave d.moment d.left_since d.size disk end all (s.size ∙ e.size) (laws.counts_now end) (safe all);
     }
@@ -70,6 +73,7 @@ returns-in-Err g c =
       completes = λ all. run-completes _ _ _ _ _ _ _ _ _ _ _ _ _ ended all.tells all;
       counted = λ all state is whole. tt;
       size = e.size_left;
+      disk_later = e.never_falls_left;
       safe = safe;
       sound = λ all. all_sound_after d.told d.content d.may_leave d.moment d.left_since d.size disk end all e.size_left (laws.counts_now end) (safe all);
     }
