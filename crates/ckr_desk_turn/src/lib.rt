@@ -8,6 +8,7 @@ mod event_laws;
 mod events;
 mod failed_run;
 mod inquiry;
+mod leg_laws;
 mod mount_laws;
 mod opening_law;
 mod plan;
@@ -38,6 +39,7 @@ pub use events::{
 };
 pub use failed_run::FailedRun;
 pub use inquiry::Inquiry;
+pub use leg_laws::legs_end_within_their_turns;
 pub use mount_laws::plans_with_their_volumes_stay;
 pub use opening_law::{opened_desks_are_desks, sound_events_open_to_a_desk};
 pub use plan::Plan;

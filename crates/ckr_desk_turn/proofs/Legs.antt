@@ -1,0 +1,13 @@
+pub mod Counts
+pub mod Steps
+pub mod Ahead
+pub mod Rows
+pub mod Lodged
+pub mod OtherSteps
+pub mod Plans
+pub mod OtherTurns
+pub mod OwnRows
+pub mod Codes
+pub mod OwnTurns
+pub mod Inputs
+pub mod Series
