@@ -2,7 +2,7 @@
 ghost use Rattle.std.specs.Prelude.{◌≡◌, ◌<◌, ◌≤◌, [], ℕ, IfSome, IsTrue, List, None, Some, false, length};
 ghost use Rattle.std.specs.Option.{is_some, option_map};
 ghost use Rattle.ckr_console.specs.Answering.{answer_in_office, asked};
-ghost use Rattle.ckr_desk_turn.specs.Mounts.{asked_for, gives_up, mount_question, mounted_all};
+ghost use Rattle.ckr_desk_turn.specs.Mounts.{asked_for, gives_up, mount_question};
 ghost use Rattle.ckr_desk_turn.specs.declared.taking.Taking.TheVariants.{Taken as AllTaken};
 ghost use Rattle.ckr_queue.specs.Mounts.{held_at, units_with, with_held};
 ghost use Rattle.ckr_queue.specs.Units.{are_mounted, is_among, is_volume_list, need_of, IsMountedBeside};

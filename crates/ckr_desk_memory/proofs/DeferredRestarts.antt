@@ -1,5 +1,5 @@
 -- What the deferred rules say of a queued run follows on any disk: where none of them holds, each test of its selection does.
-use Rattle.std.proofs.Common.{◌≡◌, ◌==◌, ◌≤◌, ◌<◌, ℕ, zero, suc, pred, Bool, true, false, ◌&&◌, cond, List, [], ◌∷◌, filter, slice_get, refl, ap, sym, ◌∙◌, subst, Option, Some, None, arith}
+use Rattle.std.proofs.Common.{◌≡◌, ◌==◌, ◌≤◌, ◌<◌, ℕ, suc, pred, Bool, true, false, ◌&&◌, cond, List, [], ◌∷◌, filter, slice_get, refl, ap, sym, ◌∙◌, subst, Option, Some, None, arith}
 use Rattle.std.specs.List.{AllByRecursion, last_or}
 use Rattle.std.specs.Option.{is_none, is_some, option_eq, option_map_or}
 use Rattle.std.proofs.lemmas.Bool.{and_from, false≢true}

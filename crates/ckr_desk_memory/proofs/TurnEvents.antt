@@ -29,7 +29,7 @@ use Rattle.ckr_points.specs.RuleCases.{rd_in_effect}
 use Rattle.ckr_points.specs.Soundness.{AreLaidOut}
 use Rattle.ckr_rules.specs.RuleTables.{suppresses}
 use Rattle.ckr_desk_turn.specs.declared.plan.Plan.{Plan}
-use Rattle.ckr_desk_turn.specs.declared.plan.Plan.TheVariants.{Ask, Pass, Rest, Take, Tell, Wait, Work}
+use Rattle.ckr_desk_turn.specs.declared.plan.Plan.TheVariants.{Rest, Take, Tell}
 use Rattle.ckr_points.specs.declared.reply.How.TheVariants.{Completed}
 use Rattle.ckr_points.specs.declared.reply.Reply.TheVariants.{Idle, JobEnded, NothingToFail, Started}
 use Rattle.ckr_desk_turn.specs.declared.reply.Turn.{Turn}

@@ -1,5 +1,5 @@
 -- The step that wants its volumes, as the jobs in memory have it.
-use Rattle.std.proofs.Common.{◌≡◌, ℕ, List, [], refl, ap, sym, ◌∙◌, IfNone, option_and_then, Option, None, Some, arith}
+use Rattle.std.proofs.Common.{◌≡◌, ℕ, List, refl, ap, sym, ◌∙◌, IfNone, option_and_then, Option, None, Some, arith}
 use Rattle.std.proofs.lemmas.Option.{same_Some}
 use Rattle.std.specs.Option.{option_map, option_map_or}
 use Rattle.ckr_base.proofs.Options.{some-not-none}

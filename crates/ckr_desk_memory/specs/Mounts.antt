@@ -4,7 +4,6 @@ use Rattle.std.specs.List.{list_any, range_with_len}
 use Rattle.std.specs.Option.{is_some, option_map, option_map_or}
 use Rattle.ckr_desk_turn.specs.declared.plan.Plan.{Plan}
 use Rattle.ckr_desk_turn.specs.Mounts.{Wanting, first_dd, is_made_there, is_sought, wanting_in, wants}
-use Rattle.ckr_events.specs.declared.event.Made.{Made}
 use Rattle.ckr_jcl.specs.declared.deck.Dd.{Dd}
 use Rattle.ckr_library.specs.Catalog.{Holding}
 use Rattle.ckr_library.specs.NameMaps.{Name, Named, entry_at}

@@ -26,7 +26,6 @@ use Rattle.ckr_points_tables.specs.View.{facts_in, facts_of, row_with}
 use Rattle.ckr_desk_turn.specs.declared.inquiry.Inquiry.{Inquiry}
 use Rattle.ckr_desk_turn.specs.declared.plan.Plan.{Plan}
 use Rattle.ckr_desk_turn.specs.declared.plan.Plan.TheVariants.{Rest, Tell, Work, Pass, Take, Ask, Wait}
-use Rattle.ckr_points.specs.declared.reply.Reply.{Reply}
 use Rattle.ckr_points.specs.declared.reply.Reply.TheVariants.{Worked as WorkedReply}
 pub use Rattle.ckr_points.specs.Replies.{HasCode, IsToldReply}
 use Rattle.ckr_desk_turn.specs.Codes.{CodePlaceModel as ReachedByTurn, code_plan, initiator_of, running_reached}

@@ -1,5 +1,5 @@
 //! What the jobs in memory have of a run.
-ghost use Rattle.std.specs.Prelude.{◌≡◌, ◌≤◌, ◌==◌, ◌&&◌, not, IfSome, IfNone, IsSome, None, Some, find, map, pred, slice_get};
+ghost use Rattle.std.specs.Prelude.{◌≡◌, ◌≤◌, ◌==◌, ◌&&◌, not, IfSome, IfNone, IsSome, None, Some, find, pred, slice_get};
 ghost use Rattle.std.specs.List.{list_any, AllByRecursion};
 ghost use Rattle.std.specs.Option.{option_copied, option_map};
 ghost use Rattle.ckr_events.specs.Format.{length_list};

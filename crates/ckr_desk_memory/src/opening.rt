@@ -1,5 +1,5 @@
 //! The jobs behind the opening of the desk.
-ghost use Rattle.std.specs.Prelude.{◌≡◌, Some, IfOk, OnErr, OnOk, filter, map};
+ghost use Rattle.std.specs.Prelude.{◌≡◌, Some, IfOk, OnErr, OnOk};
 ghost use Rattle.std.specs.List.{AllByRecursion};
 ghost use Rattle.ckr_desk_memory.specs.EventChanges.{failed_in};
 ghost use Rattle.ckr_desk_memory.specs.Invariant.{AreJobs};

@@ -5,7 +5,7 @@ ghost use Rattle.std.specs.Option.{option_copied};
 ghost use Rattle.ckr_desk_memory.specs.EventChanges.{is_point_of, AreUsesOf, HasUses};
 ghost use Rattle.ckr_desk_memory.specs.Invariant.{AreJobs, IsAcceptedRow};
 ghost use Rattle.ckr_desk_memory.specs.Parts.{IsPointCounted};
-ghost use Rattle.ckr_desk_memory.specs.Preparation.{needs_room, HasAgain, HasTaken, HasQueueRoom, HasStarting, HasStep, IsEmpty, IsPrepared, IsPreparedFor, StandsEmpty};
+ghost use Rattle.ckr_desk_memory.specs.Preparation.{needs_room, HasAgain, HasTaken, HasQueueRoom, HasStep, IsEmpty, IsPrepared, IsPreparedFor, StandsEmpty};
 ghost use Rattle.ckr_desk_memory.specs.View.{begun, resumed};
 ghost use Rattle.ckr_steps.specs.StepUnit.{AreCounted};
 ghost use Rattle.ckr_programs.specs.Ranges.{IsInRange};

@@ -1,6 +1,6 @@
 //! A run that has a code: how far it has come, and its end by the rule that denies a restart, or what the operator is asked.
-ghost use Rattle.std.specs.Prelude.{◌≡◌, ◌≤◌, false, [], ℕ, IsSome, None, Some, length};
-ghost use Rattle.std.specs.List.{list_any, AllByRecursion};
+ghost use Rattle.std.specs.Prelude.{◌≡◌, ◌≤◌, false, ℕ, IsSome, None, Some, length};
+ghost use Rattle.std.specs.List.{list_any};
 ghost use Rattle.std.specs.Option.{option_map};
 ghost use Rattle.ckr_base.specs.CodeText.{same_code};
 ghost use Rattle.ckr_events.specs.Format.{length_list};

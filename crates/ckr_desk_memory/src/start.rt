@@ -1,5 +1,5 @@
 //! A step that starts, with its data sets.
-ghost use Rattle.std.specs.Prelude.{◌≡◌, ◌∷◌, ◌+◌, ◌-◌, ◌<◌, ◌≤◌, if◌then◌else◌, ℕ, Option, None, Some, length, map, vec_len, vec_capacity};
+ghost use Rattle.std.specs.Prelude.{◌≡◌, ◌∷◌, ◌+◌, ◌-◌, ◌<◌, ◌≤◌, if◌then◌else◌, Option, None, Some, length, map, vec_len, vec_capacity};
 ghost use Rattle.std.specs.List.{AllByRecursion};
 ghost use Rattle.ckr_desk_memory.specs.Invariant.{IsAcceptedRow};
 ghost use Rattle.ckr_desk_memory.specs.Parts.{step_seen};
@@ -7,7 +7,7 @@ ghost use Rattle.ckr_desk_memory.specs.Preparation.{HasAgain, IsEmpty};
 ghost use Rattle.ckr_desk_memory.specs.RunningSteps.{may_go_back, MayGoBack, MayStartStep, StepGoesBack, StepStarts};
 ghost use Rattle.ckr_desk_memory.specs.Start.{has_all, has_any, has_sets, with_all_taken, with_any_taken, with_taken, AllFit, HasNew};
 ghost use Rattle.ckr_desk_memory.specs.View.{PointView as PointOfStep};
-ghost use Rattle.ckr_meaning.specs.EffectiveJob.{name_of, names_of, OwnedStep as OwnedStepOfRun};
+ghost use Rattle.ckr_meaning.specs.EffectiveJob.{name_of, OwnedStep as OwnedStepOfRun};
 ghost use Rattle.ckr_points.specs.Follows.{own_step};
 ghost use Rattle.ckr_points.specs.Restart.{place_of as place_of_row, step_in as step_in_place};
 ghost use Rattle.ckr_points.specs.Rows.{holding_of, run_of, step_of_run, RunRow as RowOfRun};

@@ -1,5 +1,5 @@
 //! What holds of a unit that asks for a rewrite in place, of its event and of the record. A law is the contract of a function that does nothing.
-ghost use Rattle.std.specs.Prelude.{◌≡◌, ◌<◌, ℕ, List, Option, None, Some, length, slice_get};
+ghost use Rattle.std.specs.Prelude.{◌≡◌, ◌<◌, ℕ, List, None, Some, length, slice_get};
 ghost use Rattle.ckr_events.specs.declared.event.Event.{Event};
 ghost use Rattle.ckr_desk_memory.specs.Plans.{told_by};
 ghost use Rattle.ckr_desk_memory.specs.View.{JobsView, RunningStepView, running_of};

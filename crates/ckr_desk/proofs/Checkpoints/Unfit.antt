@@ -17,7 +17,7 @@ use Rattle.ckr_desk_refines.proofs.Checkpoints.Turn.{taken-by}
 use Rattle.ckr_desk_refines.proofs.Checkpoints.Unwritten.{unwritten-stands}
 use Rattle.ckr_desk_refines.specs.Unit.{HasPassed}
 use Rattle.ckr_desk_store.specs.State.{StoreView}
-use Rattle.ckr_desk_turn.specs.Checkpoints.{checkpoint_fits, checkpoint_try, id_in}
+use Rattle.ckr_desk_turn.specs.Checkpoints.{checkpoint_fits, checkpoint_try}
 use Rattle.ckr_desk_turn.specs.Checkpoints as model
 use Rattle.ckr_desk_turn.specs.declared.plan.Plan.TheVariants.{Take}
 use Rattle.ckr_points.specs.declared.reply.Chkpt.TheVariants.{NotWritten}

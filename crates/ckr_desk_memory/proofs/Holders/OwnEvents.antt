@@ -24,7 +24,7 @@ use Rattle.ckr_events.specs.declared.event.Event.TheVariants.{Cancelled, Ended, 
 use Rattle.ckr_jcl.specs.declared.deck.Dd.{Dd}
 use Rattle.ckr_jcl.specs.declared.deck.Job.{Job}
 use Rattle.ckr_jcl.specs.declared.deck.Origin.{Origin}
-use Rattle.ckr_jcl.specs.declared.deck.Origin.TheVariants.{Dummy, InStream, Named as NamedOrigin, Sysout, Temporary, Unnamed}
+use Rattle.ckr_jcl.specs.declared.deck.Origin.TheVariants.{InStream}
 use Rattle.ckr_library.proofs.Named.{each-at, name-itself}
 use Rattle.ckr_library.specs.Catalog.{Holding, set_of}
 use Rattle.ckr_library.specs.NameMaps.{Name, Named, entry_at, same_name}

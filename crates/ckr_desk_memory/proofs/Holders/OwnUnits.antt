@@ -29,7 +29,7 @@ use Rattle.ckr_steps.specs.declared.unit_ahead.UnitAhead.{UnitAhead}
 use Rattle.ckr_volumes.specs.declared.layout.Layout.{Layout}
 use Rattle.ckr_desk_turn.specs.declared.failed_run.FailedRun.{FailedRun}
 use Rattle.ckr_desk_turn.specs.declared.plan.Plan.{Plan}
-use Rattle.ckr_desk_turn.specs.declared.plan.Plan.TheVariants.{Ask, Pass, Rest, Take, Tell, Wait, Work}
+use Rattle.ckr_desk_turn.specs.declared.plan.Plan.TheVariants.{Tell}
 use Rattle.ckr_desk_turn.specs.Codes.{initiator_of, running_reached}
 use Rattle.ckr_desk_turn.specs.Queue.{AreNumbered}
 use Rattle.ckr_desk_turn.proofs.Codes.{by-verdict}

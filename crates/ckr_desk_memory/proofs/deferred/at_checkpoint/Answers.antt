@@ -1,6 +1,5 @@
-use Rattle.std.proofs.Common.{Option, ap, sym, ◌∙◌}
+use Rattle.std.proofs.Common.{ap, sym, ◌∙◌}
 use Rattle.std.specs.Option.{option_map, option_map_or}
-use Rattle.ckr_points.specs.Rows.{KeptEntry}
 use Rattle.ckr_points_follows.specs.Model.Wanted.{wanted_in}
 use Rattle.ckr_points_tables.specs.Entries.{entry_in}
 use Rattle.ckr_desk_turn.specs.declared.plan.Plan.TheVariants.{Rest}

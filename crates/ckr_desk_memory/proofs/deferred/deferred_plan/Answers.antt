@@ -1,4 +1,4 @@
-use Rattle.std.proofs.Common.{◌≡◌, ◌≤◌, IsSome, ap, refl, sym, ◌∙◌, subst}
+use Rattle.std.proofs.Common.{◌≡◌, ◌≤◌, ap, refl, sym, ◌∙◌, subst}
 use Rattle.ckr_points.specs.Soundness.{serials}
 use Rattle.ckr_points.specs.declared.denial.Denial.{Denial}
 use Rattle.ckr_rules.specs.RuleTables.{deferred, rule_number}

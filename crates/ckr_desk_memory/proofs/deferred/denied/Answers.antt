@@ -3,7 +3,6 @@ use Rattle.ckr_events.specs.declared.event.Event.TheVariants.{Denied as DeniedEv
 use Rattle.ckr_rules.specs.RuleTables.{rule_number}
 use Rattle.ckr_desk_turn.specs.declared.plan.Plan.TheVariants.{Tell}
 use Rattle.ckr_points.specs.declared.reply.Reply.TheVariants.{DeniedRestart}
-use Rattle.ckr_desk_turn.specs.Deferred.{denied_plan}
 use Rattle.ckr_desk_memory.proofs.deferred.denied.Goals as goal
 
 pub returns-clause-plan : goal.returns-clause-plan

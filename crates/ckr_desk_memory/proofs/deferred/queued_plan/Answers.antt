@@ -1,9 +1,9 @@
-use Rattle.std.proofs.Common.{◌≡◌, None, Some, ap, sym, ◌∙◌}
+use Rattle.std.proofs.Common.{None, ap, sym, ◌∙◌}
 use Rattle.std.proofs.lemmas.Option.{same_Some}
 use Rattle.ckr_base.proofs.Options.{some-not-none}
 use Rattle.ckr_events.specs.declared.event.Event.TheVariants.{Selected as SelectedEvent}
 use Rattle.ckr_jcl.specs.declared.deck.Job.{Job}
-use Rattle.ckr_points.specs.Rows.{RunRow, run_of}
+use Rattle.ckr_points.specs.Rows.{RunRow}
 use Rattle.ckr_points_follows.specs.Model.Runs.{row_now}
 use Rattle.ckr_desk_turn.specs.declared.plan.Plan.TheVariants.{Tell}
 use Rattle.ckr_points.specs.declared.reply.Reply.TheVariants.{Selected}

@@ -1,4 +1,4 @@
-use Rattle.std.proofs.Common.{◌≡◌, ◌≤◌, ◌<◌, ◌+◌, ◌∙◌, ap, sym, arith, true, false, cond, List, length, map, nat_le, Some, None}
+use Rattle.std.proofs.Common.{◌≡◌, ◌≤◌, ◌<◌, ◌+◌, ◌∙◌, ap, sym, arith, cond, List, length, map, Some, None}
 use Rattle.std.proofs.lemmas.List.{length-map}
 use Rattle.ckr_base.proofs.Numbers.{nat_le-beyond, nat_le-from}
 use Rattle.ckr_points.specs.Rows.{TablesModel}
