@@ -1,17 +1,13 @@
--- The one line that is written.
-use Rattle.std.specs.Prelude.{ℕ, List, [], ◌∷◌, ◌++◌, length, codes, Result, Ok, Err}
-use Rattle.std.specs.Fmt.{decimal}
+-- The one line that is written, by what the cards say.
+use Rattle.std.specs.Prelude.{ℕ, List, Result, Ok, Err}
 use Rattle.ckr_volumes.specs.declared.layout.Layout.{Layout}
+use Rattle.ckr_report.specs.Notices.{formatted_text, line_refused_text, no_volume_text}
 use Rattle.ckr_desk_format.specs.declared.installation.CardRefusal.{CardRefusal}
 use Rattle.ckr_desk_format.specs.declared.installation.CardRefusal.TheVariants.{Line, NoVolume}
 
-abbrev pub formatted_text : Layout → List ℕ
-formatted_text layout =
-    codes "FORMATTED VOLUMES " ++ decimal (length layout.volumes.items) ++ codes " UNITS " ++ decimal layout.units ++ codes " INITIATORS " ++ decimal layout.initiators ++ 10 ∷ []
-
 abbrev pub refusal_text : CardRefusal → List ℕ
-refusal_text (Line number) = codes "LINE " ++ decimal number ++ codes " REFUSED" ++ 10 ∷ []
-refusal_text NoVolume = codes "NO VOLUME" ++ 10 ∷ []
+refusal_text (Line number) = line_refused_text number
+refusal_text NoVolume = no_volume_text
 
 -- the line for what the cards say
 abbrev pub said_text : Result Layout CardRefusal → List ℕ

@@ -9,9 +9,10 @@ ghost use Rattle.ckr_desk_format.specs.Formats.{IsFormatted, FormatsBy, Carried,
 use crate::CardRefusal;
 use crate::lines::read_cards;
 use crate::stream::{StreamStop, take_all};
-use crate::text::said_text;
+use crate::text::said_line;
 use ckr_journal::{FormatError, format};
 use ckr_outside::{Disk, Failed, Sink, Source, put_all};
+use ckr_report::TextLine;
 use ckr_volumes::Layout;
 use std::alloc::Global;
 
@@ -90,7 +91,7 @@ fn outcome_of(stop: StreamStop) -> FormatOutcome
 /// - `Refused`: exactly where the cards are refused. The line says which, and the disk has had no call.
 /// - `SourceFailed`, `SinkFailed`, `DiskFailed`: only where that one's faults rose. Where the sink failed, a front of
 ///   the line is written; else nothing is. Where the disk failed it has to be formatted again.
-/// - `NoMemory`: nothing is written, and the disk has had no call.
+/// - `NoMemory`: there was no memory for what the source gave. Nothing is written, and the disk has had no call.
 /// - `TooLong`: the source gave byte 16,777,217. Nothing is written, and the disk has had no call.
 pub fn format_disk<S: Source, K: Sink, D: Disk>(
     alloc: Global,
@@ -114,9 +115,7 @@ pub fn format_disk<S: Source, K: Sink, D: Disk>(
         Err(stop) => return outcome_of(stop),
     };
     let said = read_cards(&bytes, disk.size());
-    let text = match said_text(alloc, &said) {
-        Ok(text) => text,
-        Err(_) => return FormatOutcome::NoMemory,
-    };
-    carry_out(said, &text, sink, disk)
+    let mut line = TextLine::new();
+    said_line(&said, &mut line);
+    carry_out(said, line.as_slice(), sink, disk)
 }

@@ -1,0 +1,3 @@
+pub mod CodeNames
+pub mod Digits
+pub mod Pieces
