@@ -3,7 +3,7 @@ pub mod Tellings
 pub mod Service
 pub mod Streams
 pub mod Calls
-pub mod Texts
+pub mod Lists
 mod MadeStreams
 mod MadeDisks
 mod MadeEnds

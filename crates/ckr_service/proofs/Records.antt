@@ -5,7 +5,7 @@ use Rattle.std.proofs.lemmas.Option.{get_or_from_slice_get, slice_get_within}
 use Rattle.ckr_library.specs.declared.sets.DataSet.{DataSet}
 use Rattle.ckr_library.specs.NameMaps.{Name}
 use Rattle.ckr_service.specs.Counts.{records_behind, with_set}
-use Rattle.ckr_service.proofs.Texts.Lists.{past}
+use Rattle.ckr_service.proofs.Lists.{past}
 
 records_last : (count : ℕ) (lines : List (Name × DataSet)) (line : Name × DataSet) → records_behind count (lines ++ line ∷ []) ≡ with_set (records_behind count lines) line.1
 records_last count [] line = refl

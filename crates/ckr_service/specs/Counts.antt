@@ -1,11 +1,11 @@
 -- What a stream comes to in numbers.
-use Rattle.std.specs.Prelude.{ℕ, ◌+◌, ◌-◌, ◌^◌, min, List, [], ◌∷◌, ◌++◌, codes}
-use Rattle.std.specs.Fmt.{decimal}
+use Rattle.std.specs.Prelude.{ℕ, ◌+◌, ◌-◌, ◌^◌, min, List, [], ◌∷◌}
 use Rattle.ckr_cards.specs.Session.{Handed}
 use Rattle.ckr_library.specs.declared.sets.Content.{Content}
 use Rattle.ckr_library.specs.declared.sets.Content.TheVariants.{Plain, Checkpoints}
 use Rattle.ckr_library.specs.declared.sets.DataSet.{DataSet}
 use Rattle.ckr_library.specs.NameMaps.{Name}
+use Rattle.ckr_report.specs.Notices.{totals_text}
 use Rattle.ckr_desk.specs.Model.Listing.{listed}
 use Rattle.ckr_desk.specs.State.{RoomyDesk}
 use Rattle.ckr_service.specs.declared.counts.Counts.{Counts}
@@ -36,4 +36,4 @@ counts_behind state requests = counts_of (with_answers no_tally (calls state req
 
 -- the line that tells it
 abbrev pub made_text : Counts → List ℕ
-made_text counts = codes "MADE " ++ decimal counts.jobs ++ codes " JOBS " ++ decimal counts.records ++ codes " RECORDS " ++ decimal counts.restarts ++ (codes " RESTARTS" ++ 10 ∷ [])
+made_text counts = totals_text counts.jobs counts.records counts.restarts

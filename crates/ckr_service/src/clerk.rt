@@ -1,5 +1,6 @@
 //! The requests of a stream, one after another.
-ghost use Rattle.std.specs.Prelude.{◌≡◌, ◌<◌, ◌≤◌, ◌%◌, ◌*◌, ◌||◌, length, [], ◌∷◌, ◌++◌, OnOk, IfErr, IfOk, false, true};
+ghost use Rattle.std.specs.Prelude.{◌≡◌, ◌<◌, ◌≤◌, ◌%◌, ◌*◌, ◌||◌, length, [], ◌∷◌, ◌++◌, OnOk, IfErr, IfOk, false, true, unwrap_or};
+ghost use Rattle.std.specs.Option.{option_copied};
 ghost use Rattle.ckr_outside.specs.Faults.{Rose};
 ghost use Rattle.ckr_desk.specs.Model.Listing.{listed, records_of};
 ghost use Rattle.ckr_desk.specs.Model.OpenImages.{event_records};
@@ -25,7 +26,7 @@ use crate::stop::Halt;
 use crate::tally::Tally;
 use crate::text::Text;
 use crate::turns::turned;
-use ckr_base::{DsName, NoMemory, Rec};
+use ckr_base::{DsName, Name8, NoMemory, Rec};
 use ckr_console::Operator;
 use ckr_desk::{Desk, DeskError, Run, Submitted};
 use ckr_outside::{Disk, Sink};
@@ -41,15 +42,15 @@ pub struct Clerk<D: Disk, O: Operator> {
     pub tally: Tally,
 }
 
-/// The name of the job of a number.
-fn name_in(number: u32, runs: &[Run]) -> &[u8]
-    ensures { result.now ≡ name_in number runs.now }
+/// The name of the job of a number, where there is one.
+fn name_in(number: u32, runs: &[Run]) -> Option<&Name8>
+    ensures { unwrap_or (option_copied result) [] ≡ name_in number runs.now }
 {
     match runs {
-        [] => &[],
+        [] => None,
         [run, rest @ ..] => {
             if run.number == number {
-                return run.name.text();
+                return Some(&run.name);
             }
             name_in(number, rest)
         }

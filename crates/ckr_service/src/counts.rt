@@ -1,12 +1,10 @@
 //! What a stream comes to in numbers.
-ghost use Rattle.std.specs.Prelude.{◌≡◌, ◌++◌, IfSome, OnOk};
+ghost use Rattle.std.specs.Prelude.{◌≡◌, IfSome};
 ghost use Rattle.ckr_desk.specs.Model.Listing.{listed};
 ghost use Rattle.ckr_desk.specs.Soundness.{IsTrusted, state_of};
-ghost use Rattle.ckr_service.specs.Counts.{counts_of, made_text, records_behind, with_set};
+ghost use Rattle.ckr_service.specs.Counts.{counts_of, records_behind, with_set};
 
 use crate::tally::Tally;
-use crate::text::Text;
-use ckr_base::NoMemory;
 use ckr_console::Operator;
 use ckr_desk::Desk;
 use ckr_library::{Content, DataSet};
@@ -63,17 +61,4 @@ pub fn counts_of<D: Disk, O: Operator>(tally: Tally, desk: &Desk<D, O>) -> Optio
         }),
         None => None,
     }
-}
-
-/// The line of what a stream came to.
-pub fn made_line(counts: &Counts, out: &mut Text) -> Result<(), NoMemory>
-    ensures { OnOk result (out.new ≡ out.old ++ made_text counts.now) }
-{
-    out.push(b"MADE ")?;
-    out.long_number(counts.jobs)?;
-    out.push(b" JOBS ")?;
-    out.long_number(counts.records)?;
-    out.push(b" RECORDS ")?;
-    out.long_number(counts.restarts)?;
-    out.push(b" RESTARTS\n")
 }

@@ -6,32 +6,30 @@ ghost use Rattle.ckr_service.specs.CallEnds.{is_whole};
 ghost use Rattle.ckr_service.specs.Completeness.{CompletesMake, CompletesStream, NeitherFailed};
 ghost use Rattle.ckr_service.specs.Makes.{HasMade, RunsOver, TellsCounts};
 
-use crate::counts::{Counts, made_line};
+use crate::counts::Counts;
 use crate::faultless::{Bytes, Discard};
 use crate::made_disk::{MADE_SIZE, format_made};
 use crate::made_stream::stream_of;
 use crate::run::{Ran, run, serving_status};
 use crate::stop::Stop;
-use crate::text::Text;
 use crate::top::{Closed, formatting_status};
 use ckr_base::NoMemory;
 use ckr_console::Operator;
 use ckr_desk_format::FormatOutcome;
 use ckr_outside::{Disk, Failed, Sink, put_all};
+use ckr_report::{TextLine, totals_line};
 use std::alloc::Global;
 
 /// Writes the line of what a stream came to, where that is known.
-fn tell<K: Sink>(alloc: Global, counts: Option<Counts>, sink: &mut K) -> Result<bool, Stop>
+fn tell<K: Sink>(counts: Option<Counts>, sink: &mut K) -> Result<bool, Stop>
     ensures { TellsCounts (λ these. counts ≡ Some these) result (K.faults sink.old) (K.faults sink.new) (K.written sink.old) (K.written sink.new) }
 {
     let Some(counts) = counts else {
         return Err(Stop::Memory);
     };
-    let mut text = Text::new(alloc);
-    if made_line(&counts, &mut text).is_err() {
-        return Err(Stop::Memory);
-    }
-    match put_all(sink, text.bytes()) {
+    let mut line = TextLine::new();
+    totals_line(counts.jobs, counts.records, counts.restarts, &mut line);
+    match put_all(sink, line.as_slice()) {
         Ok(()) => Ok(false),
         Err(Failed) => Err(Stop::Sink),
     }
@@ -73,7 +71,7 @@ fn serve_bytes<K: Sink, D: Disk, O: Operator>(
         return Closed { status, disk };
     }
     Closed {
-        status: serving_status(tell(alloc, counts, sink)),
+        status: serving_status(tell(counts, sink)),
         disk,
     }
 }

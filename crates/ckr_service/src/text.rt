@@ -1,7 +1,5 @@
 //! The text that is written.
-ghost use Rattle.std.specs.Prelude.{◌≡◌, [], ◌∷◌, ◌++◌, OnOk, replicate};
-ghost use Rattle.std.specs.Fmt.{decimal};
-ghost use Rattle.ckr_service.specs.Listings.{initiator_text, job_text};
+ghost use Rattle.std.specs.Prelude.{◌≡◌, [], ◌++◌, OnOk};
 
 use ckr_base::NoMemory;
 use std::alloc::Global;
@@ -10,7 +8,6 @@ use std::marker::Model;
 /// A text that grows. After an `Err` it isn't told.
 #[derive(Drop)]
 pub struct Text {
-    alloc: Global,
     bytes: Vec<u8>,
 }
 
@@ -27,7 +24,6 @@ impl Text {
         ensures { result ≡ [] }
     {
         Text {
-            alloc,
             bytes: Vec::new(alloc),
         }
     }
@@ -56,47 +52,5 @@ impl Text {
         ensures { self.new ≡ [] }
     {
         self.bytes.clear();
-    }
-
-    /// The number in decimal.
-    pub fn number(&mut self, number: u32) -> Result<(), NoMemory>
-        ensures { OnOk result (self.new ≡ self.old ++ decimal number) }
-    {
-        self.long_number(u64::from(number))
-    }
-
-    /// The same of one of 64 bits.
-    pub fn long_number(&mut self, number: u64) -> Result<(), NoMemory>
-        ensures { OnOk result (self.new ≡ self.old ++ decimal number) }
-    {
-        let digits = number.to_string(self.alloc)?;
-        self.push(digits.as_bytes())
-    }
-
-    fn zeros(&mut self, count: usize) -> Result<(), NoMemory>
-        ensures { OnOk result (self.new ≡ self.old ++ replicate count 48) }
-    {
-        for _ in 0..count {
-            self.push(b"0")?;
-        }
-        Ok(())
-    }
-
-    /// `J` and seven digits.
-    pub fn job(&mut self, job: u32) -> Result<(), NoMemory>
-        ensures { OnOk result (self.new ≡ self.old ++ job_text job) }
-    {
-        let digits = job.to_string(self.alloc)?;
-        self.push(b"J")?;
-        self.zeros(7usize.saturating_sub(digits.len()))?;
-        self.push(digits.as_bytes())
-    }
-
-    /// `I` and the initiator's number.
-    pub fn initiator(&mut self, initiator: u8) -> Result<(), NoMemory>
-        ensures { OnOk result (self.new ≡ self.old ++ initiator_text initiator) }
-    {
-        self.push(b"I")?;
-        self.number(u32::from(initiator))
     }
 }

@@ -10,7 +10,8 @@ use Rattle.ckr_desk.specs.Model.Reply.{Reply}
 use Rattle.ckr_desk.specs.Model.Reply.TheVariants.{AwaitingReply, Idle, WaitingUnits, Worked}
 use Rattle.ckr_desk.specs.Model.Turn.{Turn}
 use Rattle.ckr_desk.specs.Model.Layout.{Layout}
-use Rattle.ckr_service.specs.Texts.{goes_on, is_same_work, is_work, work_in, before_runs, run_text, reply_text, runs_of, with_waiting, told_runs, answer_text}
+use Rattle.ckr_report.specs.Replies.{reply_text}
+use Rattle.ckr_service.specs.Texts.{goes_on, is_same_work, is_work, work_in, before_runs, run_text, runs_of, with_waiting, told_runs, answer_text}
 use Rattle.ckr_service.specs.Calls.{Turned, BrokenOff, turns, after_turns, turns_fit, is_rest}
 use Rattle.ckr_service.specs.declared.stop.Halt.{Halt}
 use Rattle.ckr_service.specs.declared.stop.Halt.TheVariants as Halts

@@ -1,6 +1,6 @@
 use Rattle.std.proofs.Common.{◌≡◌, ◌++◌, take}
 use Rattle.std.specs.List.{flat_map}
-use Rattle.ckr_service.specs.Listings.{job_line}
+use Rattle.ckr_report.specs.Listings.{job_line}
 use Rattle.ckr_service.proofs.listing_lines.job_lines.Given as goal
 
 abbrev pub invariant-loop-run : goal.invariant-loop-run

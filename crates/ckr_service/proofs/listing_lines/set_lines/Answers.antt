@@ -6,8 +6,8 @@ use Rattle.ckr_desk.specs.Model.Listed.{Listed}
 use Rattle.ckr_desk.specs.Soundness.{state_of}
 use Rattle.ckr_desk.specs.Model.Layout.{Layout}
 use Rattle.ckr_desk.specs.State.{layout_of}
-use Rattle.ckr_service.specs.Listings.{set_text}
-use Rattle.ckr_service.proofs.Texts.Lists.{listed_more, listed_all}
+use Rattle.ckr_report.specs.Listings.{set_text}
+use Rattle.ckr_service.proofs.Lists.{listed_more, listed_all}
 use Rattle.ckr_service.proofs.listing_lines.set_lines.Goals as goal
 
 pub loop-line-init : goal.loop-line-init

@@ -3,7 +3,7 @@ use Rattle.std.specs.List.{flat_map}
 use Rattle.ckr_desk.specs.Model.Listing.{listed}
 use Rattle.ckr_desk.specs.Soundness.{IsTrusted, state_of}
 use Rattle.ckr_desk.specs.State.{layout_of}
-use Rattle.ckr_service.specs.Listings.{set_text}
+use Rattle.ckr_report.specs.Listings.{set_text}
 use Rattle.ckr_service.proofs.listing_lines.set_lines.Given as goal
 
 abbrev pub invariant-loop-line : goal.invariant-loop-line

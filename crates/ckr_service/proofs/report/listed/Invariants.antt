@@ -1,6 +1,6 @@
 use Rattle.std.proofs.Common.{◌≡◌, ◌++◌, take}
 use Rattle.std.specs.List.{flat_map}
-use Rattle.ckr_service.specs.Texts.{record_text}
+use Rattle.ckr_report.specs.Listings.{record_text}
 use Rattle.ckr_service.proofs.report.listed.Given as goal
 
 abbrev pub invariant-loop-rec : goal.invariant-loop-rec

@@ -1,3 +1,0 @@
-pub mod CodeNames
-pub mod Lists
-pub mod Pushes
