@@ -1,8 +1,8 @@
 pub mod Counts
 pub mod Steps
-pub mod Ahead
+pub mod Bounds
 pub mod Rows
-pub mod Lodged
+pub mod Initiators
 pub mod OtherSteps
 pub mod Plans
 pub mod OtherTurns
@@ -10,4 +10,5 @@ pub mod OwnRows
 pub mod Codes
 pub mod OwnTurns
 pub mod Inputs
+pub mod Beginnings
 pub mod Series

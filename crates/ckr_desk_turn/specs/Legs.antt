@@ -1,5 +1,5 @@
 -- A leg of a run, from a place of its job up to the next restart, hold or end: the turns of its initiator, and what lies ahead of the run in its job.
-use Rattle.std.specs.Prelude.{◌≡◌, ℕ, suc, ◌+◌, ◌-◌, ◌==◌, Bool, true, false, not, if◌then◌else◌, List, [], ◌∷◌, filter, find, length, None}
+use Rattle.std.specs.Prelude.{◌≡◌, ℕ, suc, ◌+◌, ◌-◌, ◌==◌, Bool, true, false, not, if◌then◌else◌, List, [], ◌∷◌, filter, find, length, Option, None, Some}
 use Rattle.std.specs.List.{count_by, filter_map, range_with_len, sum_by}
 use Rattle.std.specs.Option.{option_map_or}
 use Rattle.ckr_meaning.specs.JobRun.{start_at}
@@ -9,12 +9,18 @@ use Rattle.ckr_points.specs.Office.{Leg}
 use Rattle.ckr_points.specs.Restart.{place_of, step_in}
 use Rattle.ckr_points.specs.Rows.{RunRow}
 use Rattle.ckr_points.specs.declared.reply.Reply.{Reply}
-use Rattle.ckr_points.specs.declared.reply.Reply.TheVariants.{AwaitingReply, JobEnded, JobHeld, Restarted, WaitingUnits}
+use Rattle.ckr_points.specs.declared.reply.Reply.TheVariants.{AwaitingReply, JobEnded, JobHeld, Restarted, Selected, WaitingUnits}
 use Rattle.ckr_programs.specs.Due.{is_checkpoint_count}
 use Rattle.ckr_desk_turn.specs.Desk.{DeskModel}
 use Rattle.ckr_desk_turn.specs.Turns.{AnsweredTurn, turn_of}
 
 -- ---- its turns
+
+-- the run whose leg begins with a reply
+abbrev pub begun : Reply → Option ℕ
+begun (Selected job) = Some job
+begun (Restarted job step id taken) = Some job
+begun _ = None
 
 -- at these replies a leg ends
 abbrev pub ends_leg : Reply → Bool

@@ -32,7 +32,7 @@ use Rattle.ckr_desk_turn.specs.Turns.{carried_out}
 use Rattle.ckr_desk_turn.specs.Units.{StepProgress, arrived}
 use Rattle.ckr_desk_turn.proofs.RunningSteps.{nothing_seen, stopped-code}
 use Rattle.ckr_desk_turn.proofs.Turns.Due.{find-seen}
-use Rattle.ckr_desk_turn.proofs.Legs.Ahead.{has_code, has_mark, placed_left, running_of, turns_left}
+use Rattle.ckr_desk_turn.proofs.Legs.Bounds.{has_code, has_mark, placed_left, running_of, turns_left}
 use Rattle.ckr_desk_turn.proofs.Legs.OtherSteps.{marked-asked}
 
 -- ---- what a turn does for a leg

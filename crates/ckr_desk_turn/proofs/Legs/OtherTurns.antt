@@ -1,16 +1,15 @@
 -- A turn of another initiator leaves the run of an initiator: its row, its running step and its mark.
-use Rattle.std.proofs.Common.{◌≡◌, ◌≢◌, ℕ, zero, suc, Bool, true, false, cond, ◌&&◌, ◌||◌, List, refl, ap, sym, ◌∙◌, subst, Option, Some, None}
+use Rattle.std.proofs.Common.{◌≡◌, ◌≢◌, ℕ, zero, suc, Bool, true, false, ◌||◌, List, refl, ap, sym, ◌∙◌, subst, Option, Some, None}
 use Rattle.std.specs.Prelude.{◌==◌}
 use Rattle.std.specs.Option.{is_none, option_map_or}
 use Rattle.std.proofs.lemmas.Bool.{false≢true}
 use Rattle.std.proofs.lemmas.Option.{same_Some}
 use Rattle.ckr_base.specs.declared.code.Code.{Code}
-use Rattle.ckr_base.proofs.Bools.{and-first, and-second, bool-cases, or-false}
+use Rattle.ckr_base.proofs.Bools.{and-second, bool-cases, or-false}
 use Rattle.ckr_base.proofs.Numbers.{equal-itself, equal-true}
 use Rattle.ckr_base.proofs.Options.{is_none-true, some-one}
 use Rattle.ckr_base.proofs.Sequences.{find-passes}
 use Rattle.ckr_console.specs.declared.question.Answer.{Answer}
-use Rattle.ckr_console.specs.declared.question.Answer.TheVariants.{Yes, No, Hold, Silent}
 use Rattle.ckr_events.specs.Jobs.{job_of}
 use Rattle.ckr_events.specs.declared.event.Event.{Event}
 use Rattle.ckr_events.specs.declared.event.Event.TheVariants.{Cancelled as CancelledEvent, Ended as EndedEvent, Restarted as RestartedEvent, Selected as SelectedEvent, Started as StartedEvent}
@@ -24,30 +23,29 @@ use Rattle.ckr_points.specs.RuleCases.{rd_in_effect}
 use Rattle.ckr_points.specs.Rows.{RunRow, TablesModel, run_of, with_row}
 use Rattle.ckr_points.specs.Restart.{after_event}
 use Rattle.ckr_rules.specs.RuleTables.{suppresses}
-use Rattle.ckr_desk_turn.specs.declared.inquiry.Inquiry.{Inquiry}
 use Rattle.ckr_desk_turn.specs.declared.plan.Plan.{Plan}
 use Rattle.ckr_desk_turn.specs.declared.plan.Plan.TheVariants.{Ask, Rest, Tell, Work, Pass, Take, Wait}
 use Rattle.ckr_points.specs.declared.reply.Reply.{Reply}
-use Rattle.ckr_points.specs.declared.reply.Reply.TheVariants.{AwaitingReply, Idle}
+use Rattle.ckr_points.specs.declared.reply.Reply.TheVariants.{Idle}
 use Rattle.ckr_desk_turn.specs.Checkpoints.{checkpoint_fits, checkpoint_try, checkpoint_turn, checkpoint_unless}
 use Rattle.ckr_desk_turn.specs.Codes.{initiator_of}
-use Rattle.ckr_desk_turn.specs.Desk.{DeskModel, TurnDone, answered, behind, checkpoint_done, done_by, jobs_of, progress_of, seen, start_of, unit_done, with_progress}
-use Rattle.ckr_desk_turn.specs.Inquiries.{decide, decided}
+use Rattle.ckr_desk_turn.specs.Desk.{DeskModel, answered, behind, checkpoint_done, done_by, jobs_of, seen, unit_done, with_progress}
+use Rattle.ckr_desk_turn.specs.Inquiries.{decide}
 use Rattle.ckr_desk_turn.specs.Invariant.{IsDesk, is_on_one}
-use Rattle.ckr_desk_turn.specs.Jobs.{TurnJobs, TurnStep}
+use Rattle.ckr_desk_turn.specs.Legs.{begun}
 use Rattle.ckr_desk_turn.specs.Mounts.{Wanting, plan_by, wanting, wanting_in, wants}
 use Rattle.ckr_desk_turn.specs.Plans.{allocation_ended, chosen_plan, free_plan, plan_of, run_plan}
 use Rattle.ckr_desk_turn.specs.Select.{is_on, may_select, next_run, run_on_initiator}
 use Rattle.ckr_desk_turn.specs.Taken.{behind_entry, served_by}
 use Rattle.ckr_desk_turn.specs.Turns.{MountedTurn, carried_out, turn_of}
-use Rattle.ckr_desk_turn.specs.Units.{StepProgress, UnitEnd, UnitOutcome, abended, unit_end, unit_plan, went}
+use Rattle.ckr_desk_turn.specs.Units.{StepProgress, UnitEnd, unit_end, unit_plan}
 use Rattle.ckr_desk_turn.proofs.Mounts.{idle-stays, plan_by-cases}
 use Rattle.ckr_desk_turn.proofs.NextEvents.BetweenSteps.{next_cases, row_of_found, state_found}
 use Rattle.ckr_desk_turn.proofs.OtherRuns.{state-lodged}
-use Rattle.ckr_desk_turn.proofs.Legs.Ahead.{has_mark, running_of}
-use Rattle.ckr_desk_turn.proofs.Legs.Lodged.{IsFirst, first-found, first-other, found-first}
+use Rattle.ckr_desk_turn.proofs.Legs.Bounds.{has_mark, running_of}
+use Rattle.ckr_desk_turn.proofs.Legs.Initiators.{IsFirst, first-found, first-other, found-first}
 use Rattle.ckr_desk_turn.proofs.Legs.OtherSteps.{found-behind, found-changed, found-coded, found-next, marked-asked, marked-next}
-use Rattle.ckr_desk_turn.proofs.Legs.Plans.{chosen-by, code-by, event-job, is_event_by, is_plan_by, run-by}
+use Rattle.ckr_desk_turn.proofs.Legs.Plans.{answered-by, by-acting, chosen-by, event-job, is_event_by, is_plan_by, run-by, tells_beginning, unit-by}
 use Rattle.ckr_desk_turn.proofs.Legs.Rows.{GivesOnly, rows-behind}
 
 -- the tables behind an event are those of the office
@@ -125,47 +123,20 @@ module _ (i : ℕ) (row other : RunRow) where
 
     done-left : (plan : Plan) → is_plan_by lodged other.number initiator plan ≡ true → IsLeft desk (done_by plan desk).desk i row
     done-left (Rest reply) its = record { on = on; running = refl; mark = refl }
-    done-left (Tell reply event) its = event-left event its
+    done-left (Tell reply event) its = event-left event (and-second (tells_beginning other.number reply event) _ its)
     done-left (Work job) its = record { on = on; running = refl; mark = refl }
     done-left (Pass job reply) its =
-        record { on = on; running = found-changed row.number job (ap (λ n. n == row.number) (equal-true job other.number its) ∙ is.apart) checkpoint_done desk.running; mark = refl }
+        record { on = on; running = found-changed row.number job (ap (λ n. n == row.number) (equal-true job other.number (and-second (is_none (begun reply)) (job == other.number) its)) ∙ is.apart) checkpoint_done desk.running; mark = refl }
     done-left (Take job) its = record { on = on; running = refl; mark = refl }
     done-left (Ask inquiry) its = record { on = on; running = refl; mark = refl }
     done-left (Wait job code) its =
         let apart : (job == row.number) ≡ false = ap (λ n. n == row.number) (equal-true job other.number its) ∙ is.apart in
         record { on = on; running = found-coded row.number job apart code desk.running; mark = marked-asked row.number job desk.failed }
 
-    decided-by : (answer : Answer) (inquiry : Inquiry) → (inquiry.job == other.number && inquiry.initiator == initiator) ≡ true → is_plan_by lodged other.number initiator (decided answer inquiry) ≡ true
-    decided-by Yes inquiry its = its
-    decided-by No inquiry its = and-first (inquiry.job == other.number) (inquiry.initiator == initiator) its
-    decided-by Hold inquiry its = and-first (inquiry.job == other.number) (inquiry.initiator == initiator) its
-    decided-by Silent inquiry its = by inquiry.lodged
-      where
-        by : (b : Bool) → is_plan_by lodged other.number initiator (cond b (Wait inquiry.job inquiry.code) (Rest AwaitingReply)) ≡ true
-        by true = and-first (inquiry.job == other.number) (inquiry.initiator == initiator) its
-        by false = refl
-
-    answered-by : (answer : Answer) (plan : Plan) → is_plan_by lodged other.number initiator plan ≡ true → is_plan_by lodged other.number initiator (decide answer plan) ≡ true
-    answered-by answer (Ask inquiry) its = decided-by answer inquiry its
-    answered-by answer (Rest reply) its = its
-    answered-by answer (Tell reply event) its = its
-    answered-by answer (Work job) its = its
-    answered-by answer (Pass job reply) its = its
-    answered-by answer (Take job) its = its
-    answered-by answer (Wait job code) its = its
-
     answered-left : (answer : Answer) (plan : Plan) → is_plan_by lodged other.number initiator plan ≡ true → IsLeft desk (answered answer plan desk).desk i row
-    answered-left answer plan its = done-left (decide answer plan) (answered-by answer plan its)
+    answered-left answer plan its = done-left (decide answer plan) (answered-by lodged other.number initiator answer plan its)
 
   module _ (desk : DeskModel) (numbered : (number : ℕ) (one : RunRow) → run_of desk.office.tables number ≡ Some one → one.number ≡ number) (on : run_on_initiator desk.office.tables i ≡ Some row) (initiator : ℕ) (is : IsAway desk i row other initiator true) where
-    same-desk : IsLeft desk desk i row
-    same-desk = record { on = on; running = refl; mark = refl }
-
-    unit-by : (jobs : TurnJobs) (step : TurnStep) (unit : UnitOutcome) → is_plan_by true other.number (initiator_of other) (unit_plan desk.layout jobs other step unit) ≡ true
-    unit-by jobs step (went None) = refl
-    unit-by jobs step (went (Some at)) = equal-itself other.number
-    unit-by jobs step (abended code) = code-by jobs.tables other (initiator_of other) true true code _ desk.layout
-
     unit-left : (answer : Answer) (end : UnitEnd) → IsLeft desk (unit_done answer other end desk).desk i row
     unit-left answer end =
         let moved : DeskModel = with_progress other.number end.progress desk in
@@ -174,7 +145,7 @@ module _ (i : ℕ) (row other : RunRow) where
         (answered-left moved numbered on initiator true (record { at = is.at; off = is.off; apart = is.apart; away = is.away; lodges = is.lodges }) answer
         (unit_plan desk.layout (jobs_of moved) other (seen moved.office other.number end.progress) end.unit)
         (subst (λ n. is_plan_by true other.number n (unit_plan desk.layout (jobs_of moved) other (seen moved.office other.number end.progress) end.unit) ≡ true) (is.lodges refl)
-        (unit-by (jobs_of moved) (seen moved.office other.number end.progress) end.unit)))
+        (unit-by desk.layout (jobs_of moved) other (seen moved.office other.number end.progress) end.unit)))
 
     entry-by : (tables : TablesModel) (start : StepStart) (progress : StepProgress) → option_map_or (is_event_by other.number initiator) (checkpoint_turn tables other start progress).event true ≡ true
     entry-by tables start progress =
@@ -193,22 +164,6 @@ module _ (i : ℕ) (row other : RunRow) where
         let told : IsLeft desk (behind event None desk) i row = event-left desk numbered on initiator true is event its in
         left-twice desk (behind event None desk) (with_progress other.number progress (behind event None desk)) i row told (moved-left (behind event None desk) told.on is.apart progress)
 
-    -- whatever its running step does
-    by-step : (act : RunRow → StepStart → StepProgress → TurnDone) → ((start : StepStart) (progress : StepProgress) → IsLeft desk (act other start progress).desk i row) → (job : ℕ) → job ≡ other.number
-        → IsLeft desk (option_map_or (λ row. option_map_or (λ start. option_map_or (λ progress. act row start progress) (progress_of desk job) (done_by (Rest Idle) desk)) (start_of desk.office row) (done_by (Rest Idle) desk)) (run_of desk.office.tables job) (done_by (Rest Idle) desk)).desk i row
-    by-step act each job its =
-        subst (λ (o : Option RunRow). IsLeft desk (option_map_or (λ row. option_map_or (λ start. option_map_or (λ progress. act row start progress) (progress_of desk job) (done_by (Rest Idle) desk)) (start_of desk.office row) (done_by (Rest Idle) desk)) o (done_by (Rest Idle) desk)).desk i row)
-        (sym (ap (run_of desk.office.tables) its ∙ is.at))
-        (by-start (start_of desk.office other))
-      where
-        by-progress : (start : StepStart) (progress : Option StepProgress) → IsLeft desk (option_map_or (λ progress. act other start progress) progress (done_by (Rest Idle) desk)).desk i row
-        by-progress start None = same-desk
-        by-progress start (Some progress) = each start progress
-
-        by-start : (start : Option StepStart) → IsLeft desk (option_map_or (λ start. option_map_or (λ progress. act other start progress) (progress_of desk job) (done_by (Rest Idle) desk)) start (done_by (Rest Idle) desk)).desk i row
-        by-start None = same-desk
-        by-start (Some start) = by-progress start (progress_of desk job)
-
   -- a plan that is carried out
   carried-left : (desk : DeskModel) → ((number : ℕ) (one : RunRow) → run_of desk.office.tables number ≡ Some one → one.number ≡ number) → run_on_initiator desk.office.tables i ≡ Some row → (initiator : ℕ) (lodged : Bool) → IsAway desk i row other initiator lodged → (answer : Answer) (plan : Plan) → is_plan_by lodged other.number initiator plan ≡ true → IsLeft desk (carried_out answer plan desk).desk i row
   carried-left desk numbered on initiator lodged is answer (Rest reply) its = done-left desk numbered on initiator lodged is (Rest reply) its
@@ -217,9 +172,9 @@ module _ (i : ℕ) (row other : RunRow) where
   carried-left desk numbered on initiator lodged is answer (Wait job code) its = done-left desk numbered on initiator lodged is (Wait job code) its
   carried-left desk numbered on initiator lodged is answer (Ask inquiry) its = answered-left desk numbered on initiator lodged is answer (Ask inquiry) its
   carried-left desk numbered on initiator true is answer (Work job) its =
-      by-step desk numbered on initiator is (λ one start progress. unit_done answer one (unit_end start progress) desk) (λ start progress. unit-left desk numbered on initiator is answer (unit_end start progress)) job (equal-true job other.number its)
+      by-acting (λ done. IsLeft desk done.desk i row) desk other is.at (record { on = on; running = refl; mark = refl }) (λ one start progress. unit_done answer one (unit_end start progress) desk) (λ start progress. unit-left desk numbered on initiator is answer (unit_end start progress)) job (equal-true job other.number its)
   carried-left desk numbered on initiator true is answer (Take job) its =
-      by-step desk numbered on initiator is (λ one start progress. served_by one (checkpoint_turn desk.office.tables one start progress) desk)
+      by-acting (λ done. IsLeft desk done.desk i row) desk other is.at (record { on = on; running = refl; mark = refl }) (λ one start progress. served_by one (checkpoint_turn desk.office.tables one start progress) desk)
       (λ start progress. entered-left desk numbered on initiator is (checkpoint_turn desk.office.tables other start progress).event (checkpoint_turn desk.office.tables other start progress).progress (entry-by desk numbered on initiator is desk.office.tables start progress)) job (equal-true job other.number its)
   carried-left desk numbered on initiator false is answer (Work job) its = absurd (false≢true its)
   carried-left desk numbered on initiator false is answer (Take job) its = absurd (false≢true its)
@@ -227,8 +182,8 @@ module _ (i : ℕ) (row other : RunRow) where
 -- ---- whose volumes a plan wants
 
 want-by : (lodged : Bool) (run initiator : ℕ) (plan : Plan) (want : ℕ × List Made) → is_plan_by lodged run initiator plan ≡ true → wants plan ≡ Some want → want.0 ≡ run
-want-by lodged run initiator (Tell reply (StartedEvent job step items)) want its some = ap (λ (one : ℕ × List Made). one.0) (sym (same_Some _ _ some)) ∙ equal-true job run its
-want-by lodged run initiator (Tell reply (CancelledEvent job)) want its some = ap (λ (one : ℕ × List Made). one.0) (sym (same_Some _ _ some)) ∙ equal-true job run its
+want-by lodged run initiator (Tell reply (StartedEvent job step items)) want its some = ap (λ (one : ℕ × List Made). one.0) (sym (same_Some _ _ some)) ∙ equal-true job run (and-second (tells_beginning run reply (StartedEvent job step items)) (job == run) its)
+want-by lodged run initiator (Tell reply (CancelledEvent job)) want its some = ap (λ (one : ℕ × List Made). one.0) (sym (same_Some _ _ some)) ∙ equal-true job run (and-second (tells_beginning run reply (CancelledEvent job)) (job == run) its)
 want-by lodged run initiator (Work job) want its some = ap (λ (one : ℕ × List Made). one.0) (sym (same_Some _ _ some)) ∙ equal-true job run (and-second lodged (job == run) its)
 want-by lodged run initiator _ want its some = cc
 

@@ -22,7 +22,7 @@ use Rattle.ckr_points.specs.Tables.{after_cancelled, after_checkpointed, after_c
 use Rattle.ckr_points_invariant.proofs.Holders.Rows.{run-same}
 use Rattle.ckr_desk_turn.specs.Select.{is_on, run_on_initiator}
 use Rattle.ckr_desk_turn.proofs.StepEnd.{by-changed}
-use Rattle.ckr_desk_turn.proofs.Legs.Lodged.{first-found, first-same, found-first}
+use Rattle.ckr_desk_turn.proofs.Legs.Initiators.{first-found, first-same, found-first}
 use Rattle.ckr_desk_turn.proofs.Legs.Rows.{GivesOnly, rows-behind}
 
 -- the run has another row, on the same initiator, at a place
@@ -90,7 +90,7 @@ any-given (Restarted job initiator code checkpoint) = tt
 any-given _ = tt
 
 -- the rows of the other runs stay
-others-stay : (tables : TablesModel) → ((number : ℕ) (one : RunRow) → run_of tables number ≡ Some one → one.number ≡ number) → (event : Event) (place : ℕ) → suc place ≢ job_of event → slice_get (after_event event None tables).runs place ≡ slice_get tables.runs place
+pub others-stay : (tables : TablesModel) → ((number : ℕ) (one : RunRow) → run_of tables number ≡ Some one → one.number ≡ number) → (event : Event) (place : ℕ) → suc place ≢ job_of event → slice_get (after_event event None tables).runs place ≡ slice_get tables.runs place
 others-stay tables numbered event place away =
     rows-behind (λ runs. slice_get runs place ≡ slice_get tables.runs place) (λ o. Unit {0}) tt event (any-given event)
     (λ other runs its same. put other.number other runs (λ e. away (e ∙ its.number)) ∙ same)

@@ -71,7 +71,7 @@ use Rattle.ckr_desk_turn.proofs.RunningSteps.{plain_step}
 use Rattle.ckr_desk_turn.proofs.Turns.Due.{plan-due}
 use Rattle.ckr_desk_turn.proofs.Units.AnyUnit.{found-going}
 use Rattle.ckr_desk_turn.proofs.Units.LastUnit.{not-at-end}
-use Rattle.ckr_desk_turn.proofs.Legs.Ahead.{desk_left, has_code, has_mark, left-most, left-some, placed-some, placed_left, running_left, running_of, steps-split, steps_left, turns_left}
+use Rattle.ckr_desk_turn.proofs.Legs.Bounds.{desk_left, has_code, has_mark, left-most, left-some, placed-some, placed_left, running_left, running_of, steps-split, steps_left, turns_left}
 use Rattle.ckr_desk_turn.proofs.Legs.Codes.{IsLegTurn, cost, cost_by, code-carried, code-turn, coded-plan, coded-some, uncoded-plan, unfailed, unwaiting}
 use Rattle.ckr_desk_turn.proofs.Legs.OtherTurns.{tables-behind}
 use Rattle.ckr_desk_turn.proofs.Legs.OwnRows.{GoesTo, goes-cancelled, goes-checkpointed, goes-rewritten, goes-started, goes-step_ended, on-still}

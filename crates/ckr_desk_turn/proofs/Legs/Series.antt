@@ -23,7 +23,7 @@ use Rattle.ckr_desk_turn.proofs.RunningSteps.{going-within}
 use Rattle.ckr_desk_turn.proofs.Turns.Initiator.{turn-keeps}
 use Rattle.ckr_desk_turn.proofs.Turns.Outcomes.{turns-led}
 use Rattle.ckr_desk_turn.proofs.Turns.Series.{turn-layout}
-use Rattle.ckr_desk_turn.proofs.Legs.Ahead.{desk_left, has_mark, left-bound, left-some, running_of, turns_left}
+use Rattle.ckr_desk_turn.proofs.Legs.Bounds.{desk_left, has_mark, left-bound, left-some, running_of, turns_left}
 use Rattle.ckr_desk_turn.proofs.Legs.Codes.{IsLegTurn, cost, cost_by}
 use Rattle.ckr_desk_turn.proofs.Legs.OtherTurns.{IsLeft, other-left}
 use Rattle.ckr_desk_turn.proofs.Legs.OwnTurns.{own-turn}

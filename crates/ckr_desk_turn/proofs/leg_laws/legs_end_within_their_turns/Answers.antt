@@ -1,5 +1,6 @@
 use Rattle.std.proofs.Common.{◌≤◌, ◌+◌, ◌*◌, arith}
 use Rattle.ckr_desk_turn.specs.Legs.{checkpoints_ahead, inputs_ahead, leg_turns, records_ahead, steps_ahead}
+use Rattle.ckr_desk_turn.proofs.Legs.Beginnings.{turn-begins}
 use Rattle.ckr_desk_turn.proofs.Legs.Inputs.{records-inputs}
 use Rattle.ckr_desk_turn.proofs.Legs.Series.{on-led, turns-ahead}
 use Rattle.ckr_desk_turn.proofs.leg_laws.legs_end_within_their_turns.Goals as goal
@@ -11,5 +12,6 @@ returns c = record {
       let inputs : records_ahead desk leg row ≤ inputs_ahead desk leg row = records-inputs desk leg row in
       omega (arith, most, inputs);
   records = λ initiator turns desk row leg is each none on led. turns-ahead initiator turns desk is each none row leg on led;
+  starts = λ desk one job is its tells. turn-begins desk is one its job tells;
   led = λ initiator desk row is on. on-led desk is initiator row on;
 }
