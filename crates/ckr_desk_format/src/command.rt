@@ -1,5 +1,5 @@
 //! The command that formats a disk.
-ghost use Rattle.std.specs.Prelude.{◌≡◌, IfOk, MatchResult};
+ghost use Rattle.std.specs.Prelude.{◌≡◌, ◌≤◌, IfOk, MatchResult};
 ghost use Rattle.ckr_outside.specs.Disk.{ChangesWithin};
 ghost use Rattle.ckr_outside.specs.Faults.{Rose};
 ghost use Rattle.ckr_volumes.specs.Header.{IsHeader};
@@ -50,6 +50,7 @@ fn carry_out<K: Sink, D: Disk>(
     ensures stays { MatchResult said (FormatsBy D.told D.content D.may_leave D.moment D.left_since (D.size disk.old) disk.old disk.new)
         (λ refusal. disk.new ≡ disk.old) }
     ensures size { D.size disk.new ≡ D.size disk.old }
+    ensures later { D.faults disk.old ≤ D.faults disk.new }
     ensures cause { CausedBy result ⊥ (Rose (K.faults sink.old) (K.faults sink.new)) (Rose (D.faults disk.old) (D.faults disk.new)) }
 {
     match said {
@@ -107,6 +108,7 @@ pub fn format_disk<S: Source, K: Sink, D: Disk>(
     // Outside the header and the first gate of the book no byte changes, also in what a stop leaves.
     ensures changes { ChangesWithin D.told D.content D.may_leave D.moment D.left_since 0 513 disk.old disk.new }
     ensures size { D.size disk.new ≡ D.size disk.old }
+    ensures later { D.faults disk.old ≤ D.faults disk.new }
     ensures cause { CausedBy result (Rose (S.faults source.old) (S.faults source.new))
         (Rose (K.faults sink.old) (K.faults sink.new)) (Rose (D.faults disk.old) (D.faults disk.new)) }
 {

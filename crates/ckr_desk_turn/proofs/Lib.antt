@@ -21,7 +21,7 @@ pub mod NextEvents
 pub mod Start
 pub mod Units
 pub mod Turns
-pub mod Legs
+pub mod Stints
 pub mod Cancel
 pub mod Rewrite
 pub mod Queue

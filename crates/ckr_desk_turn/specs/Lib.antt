@@ -19,7 +19,7 @@ pub mod EntryForms
 pub mod Taken
 pub mod Mounts
 pub mod Turns
-pub mod Legs
+pub mod Stints
 pub mod Restarts
 pub mod Deferred
 pub mod Permissions

@@ -8,7 +8,6 @@ mod event_laws;
 mod events;
 mod failed_run;
 mod inquiry;
-mod leg_laws;
 mod mount_laws;
 mod opening_law;
 mod plan;
@@ -16,6 +15,7 @@ mod queue_law;
 mod reply;
 mod restart_laws;
 mod step_laws;
+mod stint_laws;
 mod taking;
 mod turn_laws;
 mod unit_laws;
@@ -39,7 +39,6 @@ pub use events::{
 };
 pub use failed_run::FailedRun;
 pub use inquiry::Inquiry;
-pub use leg_laws::legs_end_within_their_turns;
 pub use mount_laws::plans_with_their_volumes_stay;
 pub use opening_law::{opened_desks_are_desks, sound_events_open_to_a_desk};
 pub use plan::Plan;
@@ -53,6 +52,7 @@ pub use restart_laws::{
 pub use step_laws::{
     next_units_keep_the_desk, turns_within_a_step_keep_the_desk, units_keep_the_desk,
 };
+pub use stint_laws::stints_end_within_their_turns;
 pub use taking::{Taking, gives_up};
 pub use turn_laws::{
     desks_behind_calls, desks_behind_steps_that_start, desks_behind_turns,

@@ -32,7 +32,7 @@ use Rattle.ckr_desk_turn.specs.Codes.{initiator_of}
 use Rattle.ckr_desk_turn.specs.Desk.{DeskModel, answered, behind, checkpoint_done, done_by, jobs_of, seen, unit_done, with_progress}
 use Rattle.ckr_desk_turn.specs.Inquiries.{decide}
 use Rattle.ckr_desk_turn.specs.Invariant.{IsDesk, is_on_one}
-use Rattle.ckr_desk_turn.specs.Legs.{begun}
+use Rattle.ckr_desk_turn.specs.Stints.{begun}
 use Rattle.ckr_desk_turn.specs.Mounts.{Wanting, plan_by, wanting, wanting_in, wants}
 use Rattle.ckr_desk_turn.specs.Plans.{allocation_ended, chosen_plan, free_plan, plan_of, run_plan}
 use Rattle.ckr_desk_turn.specs.Select.{is_on, may_select, next_run, run_on_initiator}
@@ -42,11 +42,11 @@ use Rattle.ckr_desk_turn.specs.Units.{StepProgress, UnitEnd, unit_end, unit_plan
 use Rattle.ckr_desk_turn.proofs.Mounts.{idle-stays, plan_by-cases}
 use Rattle.ckr_desk_turn.proofs.NextEvents.BetweenSteps.{next_cases, row_of_found, state_found}
 use Rattle.ckr_desk_turn.proofs.OtherRuns.{state-lodged}
-use Rattle.ckr_desk_turn.proofs.Legs.Bounds.{has_mark, running_of}
-use Rattle.ckr_desk_turn.proofs.Legs.Initiators.{IsFirst, first-found, first-other, found-first}
-use Rattle.ckr_desk_turn.proofs.Legs.OtherSteps.{found-behind, found-changed, found-coded, found-next, marked-asked, marked-next}
-use Rattle.ckr_desk_turn.proofs.Legs.Plans.{answered-by, by-acting, chosen-by, event-job, is_event_by, is_plan_by, run-by, tells_beginning, unit-by}
-use Rattle.ckr_desk_turn.proofs.Legs.Rows.{GivesOnly, rows-behind}
+use Rattle.ckr_desk_turn.proofs.Stints.Bounds.{has_mark, running_of}
+use Rattle.ckr_desk_turn.proofs.Stints.Initiators.{IsFirst, first-found, first-other, found-first}
+use Rattle.ckr_desk_turn.proofs.Stints.OtherSteps.{found-behind, found-changed, found-coded, found-next, marked-asked, marked-next}
+use Rattle.ckr_desk_turn.proofs.Stints.Plans.{answered-by, by-acting, chosen-by, event-job, is_event_by, is_plan_by, run-by, tells_beginning, unit-by}
+use Rattle.ckr_desk_turn.proofs.Stints.Rows.{GivesOnly, rows-behind}
 
 -- the tables behind an event are those of the office
 pub tables-behind : (office : Office) (event : Event) → (office_after (event, None) office).tables ≡ after_event event None office.tables

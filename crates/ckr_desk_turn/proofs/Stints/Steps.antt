@@ -9,10 +9,10 @@ use Rattle.ckr_meaning.specs.StepRun.{StepStart, case_at, work_at}
 use Rattle.ckr_programs.specs.Due.{is_checkpoint_count}
 use Rattle.ckr_desk_turn.specs.Desk.{cancel_done, checkpoint_done}
 use Rattle.ckr_desk_turn.specs.Due.{next_due, rc_by}
-use Rattle.ckr_desk_turn.specs.Legs.{checkpoints_behind, records_behind}
+use Rattle.ckr_desk_turn.specs.Stints.{checkpoints_behind, records_behind}
 use Rattle.ckr_desk_turn.specs.Units.{StepProgress, arrived}
 use Rattle.ckr_desk_turn.proofs.Checkpoints.Due.{cancel-only, checkpoint-only}
-use Rattle.ckr_desk_turn.proofs.Legs.Counts.{cancels-done, cancels-most, cancels-next, cancels_left, comes_at, counts-next, one-most}
+use Rattle.ckr_desk_turn.proofs.Stints.Counts.{cancels-done, cancels-most, cancels-next, cancels_left, comes_at, counts-next, one-most}
 
 module _ (start : StepStart) where
   -- a step that starts: its start, a unit for each record, the closing one, its checkpoints, its cancel and its end

@@ -1,4 +1,4 @@
--- The turns that a leg takes, one after the other with those of other initiators.
+-- The turns that a stint takes, one after the other with those of other initiators.
 use Rattle.std.proofs.Common.{◌≡◌, ◌≤◌, ◌+◌, ◌*◌, ℕ, Bool, true, false, cond, inl, inr, not, List, [], ◌∷◌, filter, length, ap, sym, ◌∙◌, subst, Some, None, arith}
 use Rattle.std.specs.Prelude.{◌==◌, if◌then◌else◌}
 use Rattle.std.specs.List.{AllByRecursion}
@@ -15,7 +15,7 @@ use Rattle.ckr_points.specs.declared.reply.Reply.{Reply}
 use Rattle.ckr_points_invariant.proofs.Steps.Events.{led-by}
 use Rattle.ckr_desk_turn.specs.Desk.{DeskModel, DeskStep, TurnDone}
 use Rattle.ckr_desk_turn.specs.Invariant.{IsDesk, IsGoing}
-use Rattle.ckr_desk_turn.specs.Legs.{GivesNoCode, checkpoints_ahead, ends_leg, is_wait, leg_turns, records_ahead, replies_to, steps_ahead, through_end}
+use Rattle.ckr_desk_turn.specs.Stints.{GivesNoCode, checkpoints_ahead, ends_stint, is_wait, stint_turns, records_ahead, replies_to, steps_ahead, through_end}
 use Rattle.ckr_desk_turn.specs.Select.{is_on, run_on_initiator}
 use Rattle.ckr_desk_turn.specs.Turns.{AnsweredTurn, IsAnsweredTurnOf, turn_of}
 use Rattle.ckr_desk_turn.proofs.NextEvents.BetweenSteps.{row_of_found, state_on}
@@ -23,10 +23,10 @@ use Rattle.ckr_desk_turn.proofs.RunningSteps.{going-within}
 use Rattle.ckr_desk_turn.proofs.Turns.Initiator.{turn-keeps}
 use Rattle.ckr_desk_turn.proofs.Turns.Outcomes.{turns-led}
 use Rattle.ckr_desk_turn.proofs.Turns.Series.{turn-layout}
-use Rattle.ckr_desk_turn.proofs.Legs.Bounds.{desk_left, has_mark, left-bound, left-some, running_of, turns_left}
-use Rattle.ckr_desk_turn.proofs.Legs.Codes.{IsLegTurn, cost, cost_by}
-use Rattle.ckr_desk_turn.proofs.Legs.OtherTurns.{IsLeft, other-left}
-use Rattle.ckr_desk_turn.proofs.Legs.OwnTurns.{own-turn}
+use Rattle.ckr_desk_turn.proofs.Stints.Bounds.{desk_left, has_mark, left-bound, left-some, running_of, turns_left}
+use Rattle.ckr_desk_turn.proofs.Stints.Codes.{IsLegTurn, cost, cost_by}
+use Rattle.ckr_desk_turn.proofs.Stints.OtherTurns.{IsLeft, other-left}
+use Rattle.ckr_desk_turn.proofs.Stints.OwnTurns.{own-turn}
 
 -- the turns among these replies that aren't waits
 abbrev works : List Reply → ℕ
@@ -39,8 +39,8 @@ works-first reply rest = by (is_wait reply)
     by true = omega arith
     by false = omega arith
 
--- where the leg ends with a reply, none come behind it
-works-end : (reply : Reply) (rest : List Reply) → ends_leg reply ≡ true → works (through_end (reply ∷ rest)) ≤ 1
+-- where the stint ends with a reply, none come behind it
+works-end : (reply : Reply) (rest : List Reply) → ends_stint reply ≡ true → works (through_end (reply ∷ rest)) ≤ 1
 works-end reply rest ends =
     let its : works (through_end (reply ∷ rest)) ≡ cost reply + 0 = ap (λ b. works (if b then reply ∷ [] else reply ∷ through_end rest)) ends ∙ works-first reply [] in
     let most : cost reply ≤ 1 = by (is_wait reply) in
@@ -51,7 +51,7 @@ works-end reply rest ends =
     by false = omega arith
 
 works-on : (reply : Reply) (rest : List Reply) → works (through_end (reply ∷ rest)) ≤ cost reply + works (through_end rest)
-works-on reply rest = by (ends_leg reply)
+works-on reply rest = by (ends_stint reply)
   where
     by : (b : Bool) → works (if b then reply ∷ [] else reply ∷ through_end rest) ≤ cost reply + works (through_end rest)
     by true = let its : works (reply ∷ []) ≡ cost reply + 0 = works-first reply [] in omega (arith, its)
@@ -63,7 +63,7 @@ module _ (i : ℕ) where
 
   -- no more than may be left
   pub turns-most : (turns : List AnsweredTurn) (desk : DeskModel) → IsDesk desk → AllByRecursion (IsAnsweredTurnOf desk.layout) turns → AllByRecursion (GivesNoCode i) turns → (row : RunRow) (leg : Leg) → run_on_initiator desk.office.tables i ≡ Some row → leg_of desk.office row.number ≡ Some leg
-      → leg_turns i turns desk ≤ desk_left desk leg row
+      → stint_turns i turns desk ≤ desk_left desk leg row
   turns-most [] desk is each none row leg on led = omega arith
   turns-most (one ∷ rest) desk is each none row leg on led =
       bool-cases (one.turn.turn.initiator == i)
@@ -74,7 +74,7 @@ module _ (i : ℕ) where
       (λ isnt.
       let left : IsLeft desk done.desk i row = other-left desk is i row on one.turn one.answer (turned isnt) in
       subst (λ b. works (through_end (replies_by b done.reply later)) ≤ most) (sym isnt)
-      (subst (λ n. leg_turns i rest done.desk ≤ n)
+      (subst (λ n. stint_turns i rest done.desk ≤ n)
       (ap (λ b. turns_left leg b (running_of done.desk row.number) (place_of row)) left.mark ∙ ap (λ o. turns_left leg (has_mark desk row.number) o (place_of row)) left.running)
       (turns-most rest done.desk kept each_then none.1 row leg left.on led_then)))
     where
@@ -102,7 +102,7 @@ module _ (i : ℕ) where
           (λ same. absurd (false≢true (sym isnt ∙ ap (λ n. one.turn.turn.initiator == n) (equal-true i one.turn.turn.initiator same) ∙ equal-itself one.turn.turn.initiator)))
           (λ away. away)
 
-      own : ((next : RunRow) → run_on_initiator done.desk.office.tables i ≡ Some next → leg_of done.desk.office next.number ≡ Some leg → leg_turns i rest done.desk ≤ desk_left done.desk leg next) → IsLegTurn i row.number leg most done → works (through_end (done.reply ∷ later)) ≤ most
+      own : ((next : RunRow) → run_on_initiator done.desk.office.tables i ≡ Some next → leg_of done.desk.office next.number ≡ Some leg → stint_turns i rest done.desk ≤ desk_left done.desk leg next) → IsLegTurn i row.number leg most done → works (through_end (done.reply ∷ later)) ≤ most
       own behind (inl ends) =
           let one_most : works (through_end (done.reply ∷ later)) ≤ 1 = works-end done.reply later ends in
           let some : 1 ≤ most = left-some leg (has_mark desk row.number) (running_of desk row.number) (place_of row) in
@@ -110,8 +110,8 @@ module _ (i : ℕ) where
       own behind (inr goes) =
           let here : works (through_end (done.reply ∷ later)) ≤ cost done.reply + works (through_end later) = works-on done.reply later in
           let fewer : cost done.reply + turns_left leg (has_mark done.desk row.number) (running_of done.desk row.number) (place_of goes.next) ≤ most = goes.left in
-          let next_most : leg_turns i rest done.desk ≤ turns_left leg (has_mark done.desk row.number) (running_of done.desk row.number) (place_of goes.next) =
-          subst (λ n. leg_turns i rest done.desk ≤ turns_left leg (has_mark done.desk n) (running_of done.desk n) (place_of goes.next)) goes.same
+          let next_most : stint_turns i rest done.desk ≤ turns_left leg (has_mark done.desk row.number) (running_of done.desk row.number) (place_of goes.next) =
+          subst (λ n. stint_turns i rest done.desk ≤ turns_left leg (has_mark done.desk n) (running_of done.desk n) (place_of goes.next)) goes.same
           (behind goes.next goes.on (ap (leg_of done.desk.office) goes.same ∙ led_then)) in
           omega (arith, here, fewer, next_most)
 
@@ -129,10 +129,10 @@ none-running desk is row at out =
     absurd (false≢true (sym out ∙ ap (λ (r : RunRow). is_within (place_of r)) (sym mine) ∙ ap is_within (going-within desk.office on its).place)))
 
 pub turns-ahead : (i : ℕ) (turns : List AnsweredTurn) (desk : DeskModel) → IsDesk desk → AllByRecursion (IsAnsweredTurnOf desk.layout) turns → AllByRecursion (GivesNoCode i) turns → (row : RunRow) (leg : Leg) → run_on_initiator desk.office.tables i ≡ Some row → leg_of desk.office row.number ≡ Some leg
-    → leg_turns i turns desk ≤ records_ahead desk leg row + checkpoints_ahead desk leg row + 4 * steps_ahead desk leg row + 1
+    → stint_turns i turns desk ≤ records_ahead desk leg row + checkpoints_ahead desk leg row + 4 * steps_ahead desk leg row + 1
 turns-ahead i turns desk is each none row leg on led =
     let at : run_of desk.office.tables row.number ≡ Some row = row_of_found desk.layout desk.office (λ other. is_on i other.initiator) row is.kept on in
-    let left : leg_turns i turns desk ≤ desk_left desk leg row = turns-most i turns desk is each none row leg on led in
+    let left : stint_turns i turns desk ≤ desk_left desk leg row = turns-most i turns desk is each none row leg on led in
     let bound : desk_left desk leg row ≤ records_ahead desk leg row + checkpoints_ahead desk leg row + 4 * steps_ahead desk leg row + 1 =
     left-bound leg (has_mark desk row.number) (running_of desk row.number) (place_of row) (none-running desk is row at) in
     omega (arith, left, bound)

@@ -1,4 +1,4 @@
--- A turn of a run's own initiator without a code: its leg ends, or goes on and needs one turn fewer, or no more where the run waits.
+-- A turn of a run's own initiator without a code: its stint ends, or goes on and needs one turn fewer, or no more where the run waits.
 use Rattle.std.proofs.Common.{◌≡◌, ◌≤◌, ◌<◌, ◌+◌, ℕ, suc, Bool, true, false, cond, inl, inr, not, ◌&&◌, ◌||◌, List, [], ◌∷◌, find, length, refl, ap, sym, ◌∙◌, subst, Option, Some, None, Result, Ok, Err, arith}
 use Rattle.std.specs.Prelude.{◌==◌, nat_le}
 use Rattle.std.specs.List.{list_any}
@@ -52,7 +52,7 @@ use Rattle.ckr_desk_turn.specs.Desk.{DeskModel, DeskStep, TurnDone, at_first, be
 use Rattle.ckr_desk_turn.specs.Due.{next_due}
 use Rattle.ckr_desk_turn.specs.Invariant.{HasCome, IsDesk, IsGoing, IsOpen, is_accounted, next_writes}
 use Rattle.ckr_desk_turn.specs.Jobs.{TurnStep}
-use Rattle.ckr_desk_turn.specs.Legs.{is_wait}
+use Rattle.ckr_desk_turn.specs.Stints.{is_wait}
 use Rattle.ckr_desk_turn.specs.NextEvents.{IsWithinStep}
 use Rattle.ckr_desk_turn.specs.Plans.{allocation_ended, between_plan, cancelled_plan, due_plan, finished_plan, free_plan, placed_plan, plan_of, run_plan, start_plan}
 use Rattle.ckr_desk_turn.specs.Select.{is_on, run_on_initiator}
@@ -71,11 +71,11 @@ use Rattle.ckr_desk_turn.proofs.RunningSteps.{plain_step}
 use Rattle.ckr_desk_turn.proofs.Turns.Due.{plan-due}
 use Rattle.ckr_desk_turn.proofs.Units.AnyUnit.{found-going}
 use Rattle.ckr_desk_turn.proofs.Units.LastUnit.{not-at-end}
-use Rattle.ckr_desk_turn.proofs.Legs.Bounds.{desk_left, has_code, has_mark, left-most, left-some, placed-some, placed_left, running_left, running_of, steps-split, steps_left, turns_left}
-use Rattle.ckr_desk_turn.proofs.Legs.Codes.{IsLegTurn, cost, cost_by, code-carried, code-turn, coded-plan, coded-some, uncoded-plan, unfailed, unwaiting}
-use Rattle.ckr_desk_turn.proofs.Legs.OtherTurns.{tables-behind}
-use Rattle.ckr_desk_turn.proofs.Legs.OwnRows.{GoesTo, goes-cancelled, goes-checkpointed, goes-rewritten, goes-started, goes-step_ended, on-still}
-use Rattle.ckr_desk_turn.proofs.Legs.Steps.{left-cancelled, left-checkpointed, left-closed, left-started, left-taken, some-left, step_left, turns_of}
+use Rattle.ckr_desk_turn.proofs.Stints.Bounds.{desk_left, has_code, has_mark, left-most, left-some, placed-some, placed_left, running_left, running_of, steps-split, steps_left, turns_left}
+use Rattle.ckr_desk_turn.proofs.Stints.Codes.{IsLegTurn, cost, cost_by, code-carried, code-turn, coded-plan, coded-some, uncoded-plan, unfailed, unwaiting}
+use Rattle.ckr_desk_turn.proofs.Stints.OtherTurns.{tables-behind}
+use Rattle.ckr_desk_turn.proofs.Stints.OwnRows.{GoesTo, goes-cancelled, goes-checkpointed, goes-rewritten, goes-started, goes-step_ended, on-still}
+use Rattle.ckr_desk_turn.proofs.Stints.Steps.{left-cancelled, left-checkpointed, left-closed, left-started, left-taken, some-left, step_left, turns_of}
 
 -- a turn that isn't a wait, behind which a run stands so
 goes-by : (i run : ℕ) (leg : Leg) (most : ℕ) (done : TurnDone) (next : RunRow) → run_on_initiator done.desk.office.tables i ≡ Some next → next.number ≡ run → is_wait done.reply ≡ false

@@ -41,7 +41,7 @@ use Rattle.ckr_desk_turn.specs.Deferred.{continued_at_entry, continued_by, defer
 use Rattle.ckr_desk_turn.specs.Desk.{DeskModel, TurnDone, done_by, progress_of, start_of}
 use Rattle.ckr_desk_turn.specs.Inquiries.{decide, decided}
 use Rattle.ckr_desk_turn.specs.Jobs.{TurnJobs, TurnStep, effect_entry, is_failed, running_in, waiting_code}
-use Rattle.ckr_desk_turn.specs.Legs.{begun}
+use Rattle.ckr_desk_turn.specs.Stints.{begun}
 use Rattle.ckr_desk_turn.specs.Units.{StepProgress, UnitOutcome, abended, unit_plan, went}
 use Rattle.ckr_desk_turn.specs.Plans.{allocation_ended, between_plan, checkpoint_plan, chosen_plan, due_plan, fail_plan, is_within, placed_plan, run_plan, running_plan, start_plan, suppressed_plan, system_failure, unmarked_plan}
 
@@ -57,7 +57,7 @@ is_beginning (SelectedEvent job on earlier step id) = true
 is_beginning (RestartedEvent job on code checkpoint) = true
 is_beginning _ = false
 
--- a reply with which a leg begins comes with such an event, and tells this run
+-- a reply with which a stint begins comes with such an event, and tells this run
 abbrev pub tells_beginning : ℕ → Reply → Event → Bool
 tells_beginning run reply event = option_map_or (λ job. job == run && is_beginning event) (begun reply) true
 

@@ -1,4 +1,4 @@
--- How many turns a run may still need up to the end of its leg, by its place and its running step, and how many these are by what lies ahead of it.
+-- How many turns a run may still need up to the end of its stint, by its place and its running step, and how many these are by what lies ahead of it.
 use Rattle.std.proofs.Common.{◌≡◌, ◌≤◌, ◌<◌, ◌+◌, ◌-◌, ◌*◌, ℕ, zero, suc, Bool, true, false, cond, ◌||◌, List, [], ◌∷◌, length, slice_get, find, refl, ap, sym, ◌∙◌, subst, Option, Some, None, arith}
 use Rattle.std.specs.Prelude.{◌==◌, nat_le}
 use Rattle.std.specs.List.{cons_option, filter_map, list_any, range_with_len, sum_by}
@@ -19,8 +19,8 @@ use Rattle.ckr_points.specs.Restart.{place_of, step_in}
 use Rattle.ckr_points.specs.Rows.{RunRow}
 use Rattle.ckr_desk_turn.specs.declared.failed_run.FailedRun.{FailedRun}
 use Rattle.ckr_desk_turn.specs.Desk.{DeskModel, DeskStep}
-use Rattle.ckr_desk_turn.specs.Legs.{checkpoints_behind, records_behind, steps_from}
-use Rattle.ckr_desk_turn.proofs.Legs.Steps.{most-left, step_left, turns_of}
+use Rattle.ckr_desk_turn.specs.Stints.{checkpoints_behind, records_behind, steps_from}
+use Rattle.ckr_desk_turn.proofs.Stints.Steps.{most-left, step_left, turns_of}
 
 -- ---- the steps from a number on
 
@@ -64,7 +64,7 @@ sum-turns (start ∷ steps) =
     let checks : sum_by (checkpoints_behind 0) (start ∷ steps) ≡ checkpoints_behind 0 start + sum_by (checkpoints_behind 0) steps = sum_by-cons (checkpoints_behind 0) start steps in
     omega (arith, rest, all, records, checks)
 
--- ---- up to the end of the leg
+-- ---- up to the end of the stint
 
 abbrev pub running_of : DeskModel → ℕ → Option DeskStep
 running_of desk run = find (λ (step : DeskStep). step.run == run) desk.running

@@ -1,4 +1,4 @@
--- A run that has a code, that of the system failure or the one with which it waits: its turn comes to the end of its leg, or it waits with the code.
+-- A run that has a code, that of the system failure or the one with which it waits: its turn comes to the end of its stint, or it waits with the code.
 use Rattle.std.proofs.Common.{◌≡◌, ◌≤◌, ◌+◌, ℕ, Bool, true, false, cond, inl, inr, not, ◌&&◌, ◌||◌, List, [], ◌∷◌, find, refl, ap, sym, ◌∙◌, Option, Some, None, arith}
 use Rattle.std.specs.Prelude.{◌==◌, ◌⊎◌, if◌then◌else◌}
 use Rattle.std.specs.List.{list_any}
@@ -25,17 +25,17 @@ use Rattle.ckr_desk_turn.specs.declared.plan.Plan.TheVariants.{Ask, Wait}
 use Rattle.ckr_desk_turn.specs.Codes.{CodePlaceModel, asked_at_entry, code_plan, ended_by, initiator_of, inquiry_of, judged_plan, reached_by, verdict_for}
 use Rattle.ckr_desk_turn.specs.Desk.{DeskModel, DeskStep, TurnDone, answered, done_by, jobs_of, seen, seen_from, seen_step, start_in_run, waiting, with_code}
 use Rattle.ckr_desk_turn.specs.Jobs.{TurnStep, effect_entry, is_asked, is_failed, running_in, waiting_code}
-use Rattle.ckr_desk_turn.specs.Legs.{ends_leg, is_wait}
+use Rattle.ckr_desk_turn.specs.Stints.{ends_stint, is_wait}
 use Rattle.ckr_desk_turn.specs.Plans.{placed_plan, run_plan, system_failure, unmarked_plan}
 use Rattle.ckr_desk_turn.specs.Select.{run_on_initiator}
 use Rattle.ckr_desk_turn.specs.Turns.{carried_out}
 use Rattle.ckr_desk_turn.specs.Units.{StepProgress, arrived}
 use Rattle.ckr_desk_turn.proofs.RunningSteps.{nothing_seen, stopped-code}
 use Rattle.ckr_desk_turn.proofs.Turns.Due.{find-seen}
-use Rattle.ckr_desk_turn.proofs.Legs.Bounds.{has_code, has_mark, placed_left, running_of, turns_left}
-use Rattle.ckr_desk_turn.proofs.Legs.OtherSteps.{marked-asked}
+use Rattle.ckr_desk_turn.proofs.Stints.Bounds.{has_code, has_mark, placed_left, running_of, turns_left}
+use Rattle.ckr_desk_turn.proofs.Stints.OtherSteps.{marked-asked}
 
--- ---- what a turn does for a leg
+-- ---- what a turn does for a stint
 
 -- a wait counts for none
 abbrev pub cost_by : Bool → ℕ
@@ -44,16 +44,16 @@ cost_by waits = cond waits 0 1
 abbrev pub cost : Reply → ℕ
 cost reply = cost_by (is_wait reply)
 
--- The run is on its initiator, and its leg goes on: it needs one turn fewer than so many, or no more where it waits.
+-- The run is on its initiator, and its stint goes on: it needs one turn fewer than so many, or no more where it waits.
 pub record GoesOn (i run : ℕ) (leg : Leg) (most : ℕ) (done : TurnDone) : Type 0 where
   pub next : RunRow
   pub on : run_on_initiator done.desk.office.tables i ≡ Some next
   pub same : next.number ≡ run
   pub left : cost done.reply + turns_left leg (has_mark done.desk run) (running_of done.desk run) (place_of next) ≤ most
 
--- its leg ends, or goes on
+-- its stint ends, or goes on
 abbrev pub IsLegTurn : ℕ → ℕ → Leg → ℕ → TurnDone → Type 0
-IsLegTurn i run leg most done = (ends_leg done.reply ≡ true) ⊎ GoesOn i run leg most done
+IsLegTurn i run leg most done = (ends_stint done.reply ≡ true) ⊎ GoesOn i run leg most done
 
 -- ---- lists
 

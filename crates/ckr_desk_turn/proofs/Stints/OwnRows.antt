@@ -22,8 +22,8 @@ use Rattle.ckr_points.specs.Tables.{after_cancelled, after_checkpointed, after_c
 use Rattle.ckr_points_invariant.proofs.Holders.Rows.{run-same}
 use Rattle.ckr_desk_turn.specs.Select.{is_on, run_on_initiator}
 use Rattle.ckr_desk_turn.proofs.StepEnd.{by-changed}
-use Rattle.ckr_desk_turn.proofs.Legs.Initiators.{first-found, first-same, found-first}
-use Rattle.ckr_desk_turn.proofs.Legs.Rows.{GivesOnly, rows-behind}
+use Rattle.ckr_desk_turn.proofs.Stints.Initiators.{first-found, first-same, found-first}
+use Rattle.ckr_desk_turn.proofs.Stints.Rows.{GivesOnly, rows-behind}
 
 -- the run has another row, on the same initiator, at a place
 pub record GoesTo (tables : TablesModel) (row : RunRow) (place : Place) : Type 0 where

@@ -19,7 +19,7 @@ use Rattle.ckr_points.specs.Rows.{RunRow}
 use Rattle.ckr_programs.specs.Records.{can_take}
 use Rattle.ckr_programs.specs.Work.{ProgCase, read_by, taken_records}
 use Rattle.ckr_desk_turn.specs.Desk.{DeskModel}
-use Rattle.ckr_desk_turn.specs.Legs.{inputs_ahead, inputs_behind, records_ahead, records_behind, steps_from, taken_in}
+use Rattle.ckr_desk_turn.specs.Stints.{inputs_ahead, inputs_behind, records_ahead, records_behind, steps_from, taken_in}
 
 -- ---- a program of one input
 

@@ -1,4 +1,4 @@
--- The leg of a run begins with Selected or Restarted: behind such a turn the run that is told is on the initiator.
+-- The stint of a run begins with Selected or Restarted: behind such a turn the run that is told is on the initiator.
 use Rattle.std.proofs.Common.{◌≡◌, ◌<◌, ℕ, zero, suc, Bool, true, false, cond, ◌&&◌, ◌||◌, List, [], ◌∷◌, ◌++◌, find, slice_get, refl, ap, sym, ◌∙◌, subst, Option, Some, None, arith}
 use Rattle.std.specs.Prelude.{◌==◌}
 use Rattle.std.specs.Option.{is_none, is_some, option_map_or}
@@ -46,7 +46,7 @@ use Rattle.ckr_desk_turn.specs.Codes.{initiator_of}
 use Rattle.ckr_desk_turn.specs.Desk.{DeskModel, TurnDone, answered, done_by, jobs_of, seen, unit_done, with_progress}
 use Rattle.ckr_desk_turn.specs.Inquiries.{decide}
 use Rattle.ckr_desk_turn.specs.Invariant.{IsDesk, has_its_step, is_off}
-use Rattle.ckr_desk_turn.specs.Legs.{begun}
+use Rattle.ckr_desk_turn.specs.Stints.{begun}
 use Rattle.ckr_desk_turn.specs.Mounts.{plan_by}
 use Rattle.ckr_desk_turn.specs.NextEvents.{Comes, EventComes}
 use Rattle.ckr_desk_turn.specs.Plans.{chosen_plan, free_plan, plan_of, run_plan}
@@ -61,10 +61,10 @@ use Rattle.ckr_desk_turn.proofs.Readiness.{desk-kept}
 use Rattle.ckr_desk_turn.proofs.Runs.Continuations.{continues-so}
 use Rattle.ckr_desk_turn.proofs.Turns.Initiator.{turn-keeps}
 use Rattle.ckr_desk_turn.proofs.Turns.Outcomes.{office_by, turn-by}
-use Rattle.ckr_desk_turn.proofs.Legs.Initiators.{first-found, found-first}
-use Rattle.ckr_desk_turn.proofs.Legs.OtherTurns.{tables-behind}
-use Rattle.ckr_desk_turn.proofs.Legs.OwnRows.{others-stay}
-use Rattle.ckr_desk_turn.proofs.Legs.Plans.{answered-by, by-acting, chosen-by, event-job, is_beginning, is_event_by, is_plan_by, run-by, tells_beginning, unit-by}
+use Rattle.ckr_desk_turn.proofs.Stints.Initiators.{first-found, found-first}
+use Rattle.ckr_desk_turn.proofs.Stints.OtherTurns.{tables-behind}
+use Rattle.ckr_desk_turn.proofs.Stints.OwnRows.{others-stay}
+use Rattle.ckr_desk_turn.proofs.Stints.Plans.{answered-by, by-acting, chosen-by, event-job, is_beginning, is_event_by, is_plan_by, run-by, tells_beginning, unit-by}
 
 -- ---- the run behind the event
 
@@ -195,7 +195,7 @@ none-before test (first ∷ rows) none (suc place) row at =
 abbrev IsFor : TablesModel → ℕ → RunRow → Type 0
 IsFor tables i row = (place : ℕ) (other : RunRow) → suc place < row.number → slice_get tables.runs place ≡ Some other → is_on i other.initiator ≡ false
 
--- the run of an initiator, behind the event by which its leg begins
+-- the run of an initiator, behind the event by which its stint begins
 record IsBegun (tables : TablesModel) (i job : ℕ) : Type 0 where
   pub row : RunRow
   pub on : run_on_initiator tables i ≡ Some row
@@ -229,7 +229,7 @@ module _ (desk : DeskModel) (is : IsDesk desk) (i : ℕ) (row : RunRow) (at : ru
 
 -- ---- a turn that tells such a reply
 
--- with a reply by which a leg begins, it tells such an event of this run
+-- with a reply by which a stint begins, it tells such an event of this run
 record TellsBeginning (run i : ℕ) (done : TurnDone) (job : ℕ) : Type 0 where
   pub same : job ≡ run
   pub event : Event

@@ -1,4 +1,4 @@
--- A leg of a run, from a place of its job up to the next restart, hold or end: the turns of its initiator, and what lies ahead of the run in its job.
+-- A stint of a run, from a place of its job up to the next restart, hold or end: the turns of its initiator, and what lies ahead of the run in its job.
 use Rattle.std.specs.Prelude.{◌≡◌, ℕ, suc, ◌+◌, ◌-◌, ◌==◌, Bool, true, false, not, if◌then◌else◌, List, [], ◌∷◌, filter, find, length, Option, None, Some}
 use Rattle.std.specs.List.{count_by, filter_map, range_with_len, sum_by}
 use Rattle.std.specs.Option.{option_map_or}
@@ -16,18 +16,18 @@ use Rattle.ckr_desk_turn.specs.Turns.{AnsweredTurn, turn_of}
 
 -- ---- its turns
 
--- the run whose leg begins with a reply
+-- the run whose stint begins with a reply
 abbrev pub begun : Reply → Option ℕ
 begun (Selected job) = Some job
 begun (Restarted job step id taken) = Some job
 begun _ = None
 
--- at these replies a leg ends
-abbrev pub ends_leg : Reply → Bool
-ends_leg (Restarted job step id taken) = true
-ends_leg (JobHeld job) = true
-ends_leg (JobEnded job how) = true
-ends_leg _ = false
+-- at these replies a stint ends
+abbrev pub ends_stint : Reply → Bool
+ends_stint (Restarted job step id taken) = true
+ends_stint (JobHeld job) = true
+ends_stint (JobEnded job how) = true
+ends_stint _ = false
 
 -- at these the run waits, for units or for the operator
 abbrev pub is_wait : Reply → Bool
@@ -43,14 +43,14 @@ replies_to initiator (one ∷ rest) desk =
     let later = replies_to initiator rest done.desk in
     if one.turn.turn.initiator == initiator then done.reply ∷ later else later
 
--- the replies up to the one that ends the leg, and this one
+-- the replies up to the one that ends the stint, and this one
 abbrev pub through_end : List Reply → List Reply
 through_end [] = []
-through_end (reply ∷ rest) = if ends_leg reply then reply ∷ [] else reply ∷ through_end rest
+through_end (reply ∷ rest) = if ends_stint reply then reply ∷ [] else reply ∷ through_end rest
 
--- how many turns of the initiator the leg of its run takes of these, waits aside
-abbrev pub leg_turns : ℕ → List AnsweredTurn → DeskModel → ℕ
-leg_turns initiator turns desk = length (filter (λ reply. not (is_wait reply)) (through_end (replies_to initiator turns desk)))
+-- how many turns of the initiator the stint of its run takes of these, waits aside
+abbrev pub stint_turns : ℕ → List AnsweredTurn → DeskModel → ℕ
+stint_turns initiator turns desk = length (filter (λ reply. not (is_wait reply)) (through_end (replies_to initiator turns desk)))
 
 -- a turn that gives no code, where it is one of this initiator
 abbrev pub GivesNoCode : ℕ → AnsweredTurn → Type 0
