@@ -4,6 +4,7 @@ pub mod Jobs
 pub mod Tables
 pub mod Desks
 pub mod Turns
+pub mod Stints
 pub mod Checkpoints
 pub mod Restarts
 pub mod Operators

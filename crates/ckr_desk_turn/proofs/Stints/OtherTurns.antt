@@ -100,9 +100,6 @@ record IsAway (desk : DeskModel) (i : ℕ) (row other : RunRow) (initiator : ℕ
   pub lodges : lodged ≡ true → initiator_of other ≡ initiator
 
 module _ (i : ℕ) (row other : RunRow) where
-  Numbered : DeskModel → Type 0
-  Numbered desk = (number : ℕ) (one : RunRow) → run_of desk.office.tables number ≡ Some one → one.number ≡ number
-
   -- where a step of the other run has come further
   moved-left : (desk : DeskModel) → run_on_initiator desk.office.tables i ≡ Some row → (other.number == row.number) ≡ false → (progress : StepProgress) → IsLeft desk (with_progress other.number progress desk) i row
   moved-left desk on apart progress = record { on = on; running = found-behind row.number other.number apart (record { run = other.number; progress = progress; code = None }) desk.running refl; mark = refl }

@@ -13,9 +13,9 @@ use Rattle.ckr_base.specs.declared.programs.NextDue.TheVariants.{Unit as OneUnit
 use Rattle.ckr_base.specs.declared.programs.Write.{Write}
 use Rattle.ckr_base.specs.Columns.{fitted}
 use Rattle.ckr_base.proofs.Bools.{bool-cases, or-false, or-first-false, or-second-false, or-true}
-use Rattle.ckr_base.proofs.Numbers.{equal-itself, equal-true}
+use Rattle.ckr_base.proofs.Numbers.{equal-itself}
 use Rattle.ckr_base.proofs.Options.{is_none-true, is_some-true, option-cases, some-one}
-use Rattle.ckr_base.proofs.Sequences.{find-all, find-passes}
+use Rattle.ckr_base.proofs.Sequences.{find-all}
 use Rattle.ckr_console.specs.declared.question.Answer.{Answer}
 use Rattle.ckr_events.specs.Jobs.{job_of}
 use Rattle.ckr_events.specs.declared.event.Event.{Event}
@@ -141,7 +141,7 @@ module _ (desk : DeskModel) (is : IsDesk desk) (i : ℕ) (row : RunRow) (on : ru
 
   -- ---- between two steps
 
-  module _ (number : ℕ) (here : step_in (place_of row) ≡ number) (all : most ≡ steps_left leg number) where
+  module _ (number : ℕ) (all : most ≡ steps_left leg number) where
     started-turn : (owned : OwnedStep) (items : List Made) → step_of_run row number ≡ Some owned → IsTurnBy (Tell (Started run owned.step.name) (StartedEvent run number (record { items = items })))
     started-turn owned items found =
         let start : StepStart = its_start leg owned number in
@@ -182,9 +182,6 @@ module _ (desk : DeskModel) (is : IsDesk desk) (i : ℕ) (row : RunRow) (on : ru
     abbrev progress : StepProgress
     progress = step.progress
 
-    its-run : step.run ≡ run
-    its-run = equal-true step.run run (find-passes (λ (step : DeskStep). step.run == run) desk.running step stepped)
-
     known : progress_of desk run ≡ Some progress
     known = ap (λ (o : Option DeskStep). option_map_or (λ (step : DeskStep). progress_unless step.code step.progress) o None) stepped ∙ ap (λ code. progress_unless code progress) uncoded
 
@@ -195,9 +192,6 @@ module _ (desk : DeskModel) (is : IsDesk desk) (i : ℕ) (row : RunRow) (on : ru
 
     no-code : has_code (has_mark desk run) (running_of desk run) ≡ false
     no-code = ap (λ b. b || option_map_or (λ (step : DeskStep). is_some step.code) (running_of desk run) false) unmarked ∙ ap (λ (o : Option DeskStep). option_map_or (λ (step : DeskStep). is_some step.code) o false) stepped ∙ ap is_some uncoded
-
-    later : ℕ
-    later = steps_left leg (suc number)
 
     its-most : most ≡ step_left start progress + steps_left leg (suc number)
     its-most =
@@ -380,9 +374,9 @@ module _ (desk : DeskModel) (is : IsDesk desk) (i : ℕ) (row : RunRow) (on : ru
   -- between two steps
   out-turn : (place : Place) → place_of row ≡ place → is_within_step place ≡ false → has_code (has_mark desk run) (running_of desk run) ≡ false → IsTurnBy (placed_plan desk.layout (jobs_of desk) row place)
   out-turn (Before number) stands out none =
-      between-turn number (ap step_in stands) (ap (λ b. cond b 1 (placed_left leg (running_of desk run) (place_of row))) none ∙ ap (placed_left leg (running_of desk run)) stands)
+      between-turn number (ap (λ b. cond b 1 (placed_left leg (running_of desk run) (place_of row))) none ∙ ap (placed_left leg (running_of desk run)) stands)
   out-turn (Opened number) stands out none =
-      between-turn number (ap step_in stands) (ap (λ b. cond b 1 (placed_left leg (running_of desk run) (place_of row))) none ∙ ap (placed_left leg (running_of desk run)) stands)
+      between-turn number (ap (λ b. cond b 1 (placed_left leg (running_of desk run) (place_of row))) none ∙ ap (placed_left leg (running_of desk run)) stands)
   out-turn (Within number writes) stands out none = absurd (false≢true (sym out))
 
   running-there : is_running row ≡ true → has_mark desk run ≡ false → is_some (running_of desk run) ≡ true

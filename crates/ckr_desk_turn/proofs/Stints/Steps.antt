@@ -64,10 +64,7 @@ module _ (start : StepStart) where
       let cancels : cancels_left start.owned.step.parm.cancel 0 false ≤ 1 = cancels-most start.owned.step.parm.cancel 0 false in
       omega (arith, due, cancels)
 
-  -- what is due now is one of them
-  abbrev none_due : StepProgress → Bool
-  none_due step = is_checkpoint_count start.owned.step.parm step.taken && not step.checkpointed
-
+  -- what is due, by whether the step is closed, and whether a checkpoint or a cancel comes now
   abbrev due_by : Bool → Bool → Bool → ℕ → NextDue
   due_by closed comes ends rc = if closed then Finished rc else (if comes then Checkpoint else (if ends then Cancel else OneUnit))
 
