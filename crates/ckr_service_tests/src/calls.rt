@@ -195,7 +195,7 @@ fn worked_streams_on_one_disk(rt: HostRuntime) -> Result<(), Fail> {
 }
 
 /// Steps that are running when the stream ends, what is written before, and how their jobs end or go on when the disk is opened again.
-const RUNNING: [(&[u8], &[u8], &[u8]); 3] = [
+static RUNNING: [(&[u8], &[u8], &[u8]); 3] = [
     (
         b"//COPY1 JOB\n//S1 EXEC PGM=COPY\n//SYSUT1 DD *\nALPHA\nBETA\n/*\n//SYSUT2 DD DSN=OUT.A,DISP=(NEW,CATLG),SPACE=(80,10)\n//\n$T 1 4\n",
         b"J0000001 COPY1 SUBMITTED\nI1 J0000001 SELECTED\nI1 J0000001 S1 STARTED\nI1 J0000001 S1 WORKED 2 TAKEN 2\n",
@@ -213,57 +213,81 @@ const RUNNING: [(&[u8], &[u8], &[u8]); 3] = [
     ),
 ];
 
+/// Whether a stream is answered so, and what comes when the disk is opened again.
+fn goes_by_the_rules(alloc: Global, row: &(&[u8], &[u8], &[u8])) -> Result<bool, Fail> {
+    let (stream, before, behind) = *row;
+    let disk = formatted(alloc, CARDS, SIZE, None, None)?;
+    let first = call(alloc, "run", stream, disk)?;
+    let second = call(alloc, "run", b"$T 1 2\n", first.disk)?;
+    Ok(
+        first.status == 0
+            && first.text.as_slice() == before
+            && second.status == 0
+            && second.text.as_slice() == behind,
+    )
+}
+
 #[test]
 fn a_run_that_was_running_goes_by_the_rules_when_the_disk_is_opened_again(
     rt: HostRuntime,
 ) -> Result<(), Fail> {
     let alloc = rt.alloc();
-    for (stream, before, behind) in RUNNING {
-        let disk = formatted(alloc, CARDS, SIZE, None, None)?;
-        let ended = call(alloc, "run", stream, disk)?;
-        assert!(rt; ended.status == 0 && ended.text.as_slice() == before);
-        let ended = call(alloc, "run", b"$T 1 2\n", ended.disk)?;
-        assert!(rt; ended.status == 0 && ended.text.as_slice() == behind);
+    for (place, row) in RUNNING.iter().enumerate() {
+        assert!(rt; goes_by_the_rules(alloc, row)?, "row {place}");
     }
     Ok(())
+}
+
+/// Cards of a disk whose book is full within the stream, and the text up to there.
+static FULL_BOOKS: [(&[u8], &[u8]); 2] = [
+    (
+        b"BOOK 592\nVOLUME VOL001 2000\n",
+        b"J0000001 COPY1 SUBMITTED\nI1 J0000001 SELECTED\n",
+    ),
+    (b"BOOK 574\nVOLUME VOL001 2000\n", b""),
+];
+
+/// Whether the stream is broken off so, and the disk opens again.
+fn is_full(alloc: Global, row: &(&[u8], &[u8])) -> Result<bool, Fail> {
+    let (cards, text) = *row;
+    let disk = formatted(alloc, cards, SMALL_SIZE, None, None)?;
+    let ended = call(alloc, "run", STREAM, disk)?;
+    let again = call(alloc, "run", b"", ended.disk)?;
+    Ok(ended.status == 3 && ended.text.as_slice() == text && again.status == 0)
 }
 
 #[test]
 fn the_book_is_full(rt: HostRuntime) -> Result<(), Fail> {
     let alloc = rt.alloc();
-    let two = b"J0000001 COPY1 SUBMITTED\nI1 J0000001 SELECTED\n";
-    let table = [
-        (b"BOOK 592\nVOLUME VOL001 2000\n".as_slice(), two.as_slice()),
-        (b"BOOK 574\nVOLUME VOL001 2000\n".as_slice(), b"".as_slice()),
-    ];
-    for (cards, text) in table {
-        let disk = formatted(alloc, cards, SMALL_SIZE, None, None)?;
-        let ended = call(alloc, "run", STREAM, disk)?;
-        assert!(rt; ended.status == 3 && ended.text.as_slice() == text);
-        let ended = call(alloc, "run", b"", ended.disk)?;
-        assert!(rt; ended.status == 0);
+    for (place, row) in FULL_BOOKS.iter().enumerate() {
+        assert!(rt; is_full(alloc, row)?, "row {place}");
     }
     Ok(())
 }
 
+/// Cards of a disk, and the status and the text of a call with one deck on it.
+static BOOKS: [(&[u8], u8, &[u8]); 2] = [
+    (b"BOOK 334\nVOLUME VOL001 2000\n", 3, b""),
+    (
+        b"BOOK 335\nVOLUME VOL001 2000\n",
+        0,
+        b"J0000001 J SUBMITTED\n",
+    ),
+];
+
+/// Whether a deck is answered so.
+fn is_submitted_so(alloc: Global, row: &(&[u8], u8, &[u8])) -> Result<bool, Fail> {
+    let (cards, status, text) = *row;
+    let deck = b"//J JOB\n//S1 EXEC PGM=IEFBR14\n//*\n//*\n";
+    let (ended, written) = text_of(alloc, cards, SMALL_SIZE, deck)?;
+    Ok(ended == status && written.as_slice() == text)
+}
+
 #[test]
 fn a_deck_needs_its_room_of_the_book(rt: HostRuntime) -> Result<(), Fail> {
-    let deck = b"//J JOB\n//S1 EXEC PGM=IEFBR14\n//*\n//*\n";
-    let table = [
-        (
-            b"BOOK 334\nVOLUME VOL001 2000\n".as_slice(),
-            3,
-            b"".as_slice(),
-        ),
-        (
-            b"BOOK 335\nVOLUME VOL001 2000\n".as_slice(),
-            0,
-            b"J0000001 J SUBMITTED\n".as_slice(),
-        ),
-    ];
-    for (cards, status, text) in table {
-        let (ended, written) = text_of(rt.alloc(), cards, SMALL_SIZE, deck)?;
-        assert!(rt; ended == status && written.as_slice() == text);
+    let alloc = rt.alloc();
+    for (place, row) in BOOKS.iter().enumerate() {
+        assert!(rt; is_submitted_so(alloc, row)?, "row {place}");
     }
     Ok(())
 }
@@ -347,6 +371,18 @@ fn any_stop_leaves_a_disk_that_opens_with_what_was_answered(rt: HostRuntime) -> 
     Ok(())
 }
 
+/// Whether the stream ends so where a call of the source and one of the sink fail: with this status, and so many bytes of the text.
+fn ends_so(alloc: Global, row: &(u32, u32, u8, usize)) -> Result<bool, Fail> {
+    let (take, put, status, length) = *row;
+    let (ended, sink) = served(alloc, STREAM.to_vec(alloc)?, take, put)?;
+    Ok(
+        ended == status
+            && sink.bytes().len() == length
+            && TEXT.starts_with(sink.bytes())
+            && sink.lacks() == 0,
+    )
+}
+
 /// Each put has the lines that were told since the one before: of the deck, of each turn but units of work in a row, of a listing.
 #[test]
 fn each_call_of_the_outside_fails_in_turn(rt: HostRuntime) -> Result<(), Fail> {
@@ -364,12 +400,9 @@ fn each_call_of_the_outside_fails_in_turn(rt: HostRuntime) -> Result<(), Fail> {
         (NEVER, 6, 5, TEXT.len() - 13),
         (NEVER, 7, 0, TEXT.len()),
     ];
-    for (take, put, status, length) in table {
-        let (ended, sink) = served(alloc, STREAM.to_vec(alloc)?, take, put)?;
-        assert!(rt; ended == status, "take {take} put {put}: {ended}");
-        assert!(rt; sink.bytes().len() == length, "take {take} put {put}");
-        assert!(rt; TEXT.starts_with(sink.bytes()), "take {take} put {put}");
-        assert!(rt; sink.lacks() == 0);
+    for row in &table {
+        let (take, put, ..) = *row;
+        assert!(rt; ends_so(alloc, row)?, "take {take} put {put}");
     }
     Ok(())
 }
@@ -398,48 +431,47 @@ fn a_sink_that_fails_within_a_command(rt: HostRuntime) -> Result<(), Fail> {
     Ok(())
 }
 
+/// Streams, and their statuses and texts.
+static STREAMS: [(&[u8], u8, &[u8]); 9] = [
+    (b"", 0, b""),
+    (b" \t\n//\n//* NIGHT RUN\r\n/*\n", 0, b""),
+    (b"$T 1 1\n", 0, b"I1 IDLE\n"),
+    (b"$T\t1\t1 \t\n$T \t1 1\n", 8, b"I1 IDLE\nLINE 2 REFUSED\n"),
+    (b"$R OUT.A", 8, b"LINE 1 REFUSED\n"),
+    (
+        b"//J JOB\n//S EXEC PGM=COPY\n//SYSUT2 DD DSN=OUT.A,DISP=(NEW,CATLG),\n//              SPACE=(80,10)\n//SYSUT1 DD *\nA\n",
+        8,
+        b"DECK REFUSED J06 CARD 4\n",
+    ),
+    (
+        b"//J JOB\n//S EXEC PGM=COPY\n//SYSUT2 DD DSN=OUT.A,DISP=(NEW,CATLG),\n//             SPACE=(80,10)\n//SYSUT1 DD *\nA\n",
+        0,
+        b"J0000001 J SUBMITTED\n",
+    ),
+    (
+        b"//J JOB\n//S EXEC PGM=IEFBR14\n//\n$T 2 1",
+        0,
+        b"J0000001 J SUBMITTED\nI2 J0000001 SELECTED\n",
+    ),
+    (
+        b"\n$T 3 1\n$T 1 01\n$T 1 1000001\nHELLO\n$Z\n",
+        8,
+        b"LINE 2 REFUSED\nLINE 3 REFUSED\nLINE 4 REFUSED\nLINE 5 REFUSED\nLINE 6 REFUSED\n",
+    ),
+];
+
+/// Whether a stream is answered so.
+fn is_served_so(alloc: Global, row: &(&[u8], u8, &[u8])) -> Result<bool, Fail> {
+    let (stream, status, text) = *row;
+    let (ended, sink) = served(alloc, stream.to_vec(alloc)?, NEVER, NEVER)?;
+    Ok(ended == status && sink.bytes() == text)
+}
+
 #[test]
 fn streams_have_their_texts(rt: HostRuntime) -> Result<(), Fail> {
     let alloc = rt.alloc();
-    let table = [
-        (b"".as_slice(), 0, b"".as_slice()),
-        (
-            b" \t\n//\n//* NIGHT RUN\r\n/*\n".as_slice(),
-            0,
-            b"".as_slice(),
-        ),
-        (b"$T 1 1\n".as_slice(), 0, b"I1 IDLE\n".as_slice()),
-        (
-            b"$T\t1\t1 \t\n$T \t1 1\n".as_slice(),
-            8,
-            b"I1 IDLE\nLINE 2 REFUSED\n".as_slice(),
-        ),
-        (b"$R OUT.A".as_slice(), 8, b"LINE 1 REFUSED\n".as_slice()),
-        (
-            b"//J JOB\n//S EXEC PGM=COPY\n//SYSUT2 DD DSN=OUT.A,DISP=(NEW,CATLG),\n//              SPACE=(80,10)\n//SYSUT1 DD *\nA\n".as_slice(),
-            8,
-            b"DECK REFUSED J06 CARD 4\n".as_slice(),
-        ),
-        (
-            b"//J JOB\n//S EXEC PGM=COPY\n//SYSUT2 DD DSN=OUT.A,DISP=(NEW,CATLG),\n//             SPACE=(80,10)\n//SYSUT1 DD *\nA\n".as_slice(),
-            0,
-            b"J0000001 J SUBMITTED\n".as_slice(),
-        ),
-        (
-            b"//J JOB\n//S EXEC PGM=IEFBR14\n//\n$T 2 1".as_slice(),
-            0,
-            b"J0000001 J SUBMITTED\nI2 J0000001 SELECTED\n".as_slice(),
-        ),
-        (
-            b"\n$T 3 1\n$T 1 01\n$T 1 1000001\nHELLO\n$Z\n".as_slice(),
-            8,
-            b"LINE 2 REFUSED\nLINE 3 REFUSED\nLINE 4 REFUSED\nLINE 5 REFUSED\nLINE 6 REFUSED\n".as_slice(),
-        ),
-    ];
-    for (stream, status, text) in table {
-        let (ended, sink) = served(alloc, stream.to_vec(alloc)?, NEVER, NEVER)?;
-        assert!(rt; ended == status, "{stream:?}: {ended}");
-        assert!(rt; sink.bytes() == text, "{stream:?}");
+    for (place, row) in STREAMS.iter().enumerate() {
+        assert!(rt; is_served_so(alloc, row)?, "row {place}");
     }
     Ok(())
 }

@@ -150,7 +150,7 @@ const REWRITTEN_TEXT: &[u8] =
     b"J0000001 MAKE SUBMITTED\nI1 J0000001 SELECTED\nI1 J0000001 S1 STARTED\nI1 J0000001 S1 WORKED 4 TAKEN 3\nI1 J0000001 S1 ENDED RC 0\nI1 J0000001 ENDED\nI1 IDLE\nJ0000002 UPD SUBMITTED\nI1 J0000002 SELECTED\nI1 J0000002 S1 STARTED\nI1 J0000002 S1 WORKED 2 TAKEN 2\nI1 J0000002 S1 CHKPT 00 C0000001\nI1 J0000002 S1 WORKED 1 TAKEN 3\nI1 J0000002 ENDED S001 A1\nJ0000003 UPD SUBMITTED\nI1 J0000003 S1 RESTARTED AT C0000001 TAKEN 2 CHKPT 04\nI1 J0000003 S1 WORKED 1 TAKEN 3\nI1 J0000003 S1 RESTARTED AT C0000001 TAKEN 2 CHKPT 04\nI1 J0000003 S1 WORKED 1 TAKEN 3\nI1 J0000003 S1 CHKPT CANCEL\nI1 J0000003 ENDED S001 A4\nJ0000004 UPD SUBMITTED\nI1 J0000004 S1 RESTARTED AT C0000001 TAKEN 2 CHKPT 04\nI1 J0000004 S1 WORKED 1 TAKEN 3\nI1 J0000004 S1 CHKPT CANCEL\nI1 J0000004 S1 WORKED 1 TAKEN 4\nI1 J0000004 S1 CHKPT 00 C0000002\nI1 J0000004 S1 WORKED 1 TAKEN 5\nCHK.K VOL001 - 256 4/4 2.1.0\nM.A VOL001 C 80 3/3 2.1.2\nSYSOUT.J0000002.S1.REJECTS VOL001 - 133 0/500 2.1.0\nI1 J0000004 ENDED S001 A4\nJ0000005 UPD SUBMITTED\nJ0000006 UPD SUBMITTED\nI1 J0000005 RESTART DENIED D10 M.A HAD 2.1.1/3 NOW 2.1.2/3\nI1 J0000006 RESTART DENIED D10 M.A HAD 2.1.1/3 NOW 2.1.2/3\n=0001NEW\n=0002BB\n=0003LAST\n";
 
 /// One job goes on where one has stopped.
-const ONCE: [Row; 8] = [
+static ONCE: [Row; 8] = [
     (&[RECORDS], FAILED_SIXTY, FAILED_SIXTY_TEXT, 0),
     (&[], FAILED, FAILED_TEXT, 0),
     (&[RECORDS, FAILED_SIXTY], SIXTY, SIXTY_TEXT, 0),
@@ -171,7 +171,7 @@ fn jobs_go_on_where_an_earlier_one_has_stopped(rt: HostRuntime) -> Result<(), Fa
 }
 
 /// Several do, each where one before it has stopped.
-const CHAINS: [Row; 6] = [
+static CHAINS: [Row; 6] = [
     (&[], TWICE, TWICE_TEXT, 0),
     (&[], CHAIN, CHAIN_TEXT, 0),
     (&[], OWNERS, OWNERS_TEXT, 8),
@@ -190,7 +190,7 @@ fn jobs_that_have_gone_on_are_continued(rt: HostRuntime) -> Result<(), Fail> {
 }
 
 /// Jobs that have gone on are restarted on their own.
-const RESTARTED: [Row; 6] = [
+static RESTARTED: [Row; 6] = [
     (&[], FROM_THE_START, FROM_THE_START_TEXT, 0),
     (&[], FROM_A_CHECKPOINT, FROM_A_CHECKPOINT_TEXT, 0),
     (&[], CANCELLED, CANCELLED_TEXT, 0),
@@ -222,7 +222,7 @@ const FROM_A_HELD: &[u8] =
 
 /// Nobody is asked before a job goes on where an earlier one has stopped: it does where nobody is in office, and the first answer is for the mount that its next turn wants. One that is
 /// held hasn't ended.
-const ASKED: [(&[&[u8]], &[&str], &[u8], &[u8]); 4] = [
+static ASKED: [(&[&[u8]], &[&str], &[u8], &[u8]); 4] = [
     (
         &[FAILED],
         &[],
@@ -284,7 +284,7 @@ const BETWEEN: &[u8] =
 
 /// What is told where the disk is opened again: a job that goes on at a checkpoint was running, and is restarted there; one that goes on at the start of a step was not, and
 /// begins it. Once it has, it is restarted at its start.
-const OPENED: [Row; 5] = [
+static OPENED: [Row; 5] = [
     (&[FAILED], RUNNING, RUNNING_TEXT, 0),
     (
         &[FAILED, RUNNING],
@@ -329,7 +329,7 @@ const CONTINUED: &[u8] =
 
 /// The book has no room for the denial, whose deck takes 254 bytes and itself 12, with one more behind; and none for the job's going on, behind decks of 254 and 174 bytes
 /// and 58 that the first job takes, itself 17.
-const BOOKS: [(&[u8], &[u8], u8, &[u8]); 4] = [
+static BOOKS: [(&[u8], &[u8], u8, &[u8]); 4] = [
     (
         b"BOOK 266\nVOLUME VOL001 2000\n",
         DENIED,

@@ -106,7 +106,7 @@ const TEMPORARY_TEXT: &[u8] =
     b"J0000001 K SUBMITTED\nI1 J0000001 SELECTED\nI1 J0000001 S1 STARTED\nI1 J0000001 S1 WORKED 1 TAKEN 0\nI1 J0000001 S1 ENDED RC 0\nI1 J0000001 S2 STARTED\nI1 J0000001 ENDED S001 A2\nJ0000002 K SUBMITTED\nI1 J0000002 RESTART DENIED D8 SYSTEMP.J0000001.T\n";
 
 /// By the entry, the earlier job and its step.
-const BY_STEP: [Row; 6] = [
+static BY_STEP: [Row; 6] = [
     (&[], UNKNOWN, UNKNOWN_TEXT, 8),
     (&[FAILED], EACH, EACH_TEXT, 0),
     (&[], PLACES, PLACES_TEXT, 0),
@@ -125,7 +125,7 @@ fn restarts_are_denied_by_the_first_rule_that_holds(rt: HostRuntime) -> Result<(
 }
 
 /// By the data sets.
-const BY_DATA_SET: [Row; 8] = [
+static BY_DATA_SET: [Row; 8] = [
     (&[RECORDS, FAILED_SIXTY], UNWRITTEN, UNWRITTEN_TEXT, 0),
     (&[RECORDS, FAILED_SIXTY], EXTENDED, EXTENDED_TEXT, 0),
     (&[RECORDS, FAILED_SIXTY], DELETED, DELETED_TEXT, 0),
@@ -166,7 +166,7 @@ const ENTRY: u64 = 101_952;
 
 /// A byte of the first entry, of 143 bytes, that is another one on the disk: in its mark, in its count of writes, its program SELECT in place of COPY, and MERGE, of which
 /// more is told; its count of rejects, which is of the state, and says nothing; its last byte, and the first one behind it.
-const DAMAGES: [(u64, u8, &[u8]); 7] = [
+static DAMAGES: [(u64, u8, &[u8]); 7] = [
     (0, 88, UNREAD),
     (38, 9, UNREAD),
     (39, 2, OTHER),

@@ -42,8 +42,6 @@ const SILENT: &[u8] =
 const SILENT_TEXT: &[u8] =
     b"J0000002 K SUBMITTED\nI1 J0000002 SELECTED\nI1 J0000002 S1 STARTED\nI1 J0000002 S1 WORKED 1 TAKEN 1\nI1 AWAITING REPLY\nI1 AWAITING REPLY\nI1 NOTHING TO FAIL\nOPERATOR 2\nI1 J0000002 S1 RESTARTED AT STEP\n";
 
-const NO_OPERATORS: &[&str] = &[];
-
 /// Where nobody is in office it is so each time.
 const NOBODY: &[u8] =
     b"//J JOB RD=R\n//S1 EXEC PGM=IEFBR14\n//*\n//\n$T 1 2\n$F 1 S001\n$T 1 5\n$T 1 1\n$S\n";
@@ -79,9 +77,18 @@ const RUNNING: &[u8] =
 const FAILED: &[u8] =
     b"//K JOB\n//S1 EXEC PGM=COPY,PARM='CHK=20'\n//SYSUT1 DD DSN=IN.A,DISP=SHR\n//SYSUT2 DD DSN=OUT.K,DISP=(NEW,CATLG,CATLG),SPACE=(80,100)\n//CHKDD DD DSN=CHK.K,DISP=(NEW,CATLG,CATLG),SPACE=(256,20)\n//\n$T 1 46\n$F 1 S001\n";
 
+/// Two streams, each with its operators, and the text of the second.
+type Stopped = (
+    &'static [&'static str],
+    &'static [u8],
+    &'static [&'static str],
+    &'static [u8],
+    &'static [u8],
+);
+
 /// Two streams, each with its operators, and the text of the second, which is served on the disk that the first one left. A run that was running at the
 /// stop between them is asked for with S2F3, also one that waited with another code; a held one is held still, at its checkpoint.
-const STOPPED: [(&[&str], &[u8], &[&str], &[u8], &[u8]); 5] = [
+static STOPPED: [Stopped; 5] = [
     (
         &["+"],
         RUNNING,
@@ -135,79 +142,90 @@ fn told_in_turn(
     Ok(told)
 }
 
+/// Operators, a stream behind the one of the records, its text and its status.
+type Row = (&'static [&'static str], &'static [u8], &'static [u8], u8);
+
+static ROWS: [Row; 9] = [
+    (&["YH", "Y"], HELD, HELD_TEXT, 0),
+    (&["YN"], DENIED, DENIED_TEXT, 0),
+    (&["YHY"], HELD_AT_CHECKPOINT, HELD_AT_CHECKPOINT_TEXT, 0),
+    (&["YHN"], NAMES, NAMES_TEXT, 8),
+    (&["Y", "Y"], SILENT, SILENT_TEXT, 0),
+    (&[], NOBODY, NOBODY_TEXT, 8),
+    (&["Y", "N"], NO_SPACE, NO_SPACE_TEXT, 0),
+    (&["YHHY"], HELD_AGAIN, HELD_AGAIN_TEXT, 0),
+    (&["*"], CAUTIOUS, CAUTIOUS_TEXT, 8),
+];
+
+/// Whether a stream is answered so.
+fn is_answered(alloc: Global, row: &Row) -> Result<bool, Fail> {
+    let (operators, stream, text, status) = *row;
+    let calls = [(["+"].as_slice(), RECORDS), (operators, stream)];
+    let (ended, written) = told_in_turn(alloc, CARDS, &calls)?;
+    Ok(ended == status && written.as_slice() == text)
+}
+
 #[test]
 fn runs_go_by_the_operators_answers(rt: HostRuntime) -> Result<(), Fail> {
     let alloc = rt.alloc();
-    let table = [
-        (["YH", "Y"].as_slice(), HELD, HELD_TEXT, 0),
-        (["YN"].as_slice(), DENIED, DENIED_TEXT, 0),
-        (
-            ["YHY"].as_slice(),
-            HELD_AT_CHECKPOINT,
-            HELD_AT_CHECKPOINT_TEXT,
-            0,
-        ),
-        (["YHN"].as_slice(), NAMES, NAMES_TEXT, 8),
-        (["Y", "Y"].as_slice(), SILENT, SILENT_TEXT, 0),
-        (NO_OPERATORS, NOBODY, NOBODY_TEXT, 8),
-        (["Y", "N"].as_slice(), NO_SPACE, NO_SPACE_TEXT, 0),
-        (["YHHY"].as_slice(), HELD_AGAIN, HELD_AGAIN_TEXT, 0),
-        (["*"].as_slice(), CAUTIOUS, CAUTIOUS_TEXT, 8),
-    ];
-    for (operators, stream, text, status) in table {
-        let calls = [(["+"].as_slice(), RECORDS), (operators, stream)];
-        let (ended, written) = told_in_turn(alloc, CARDS, &calls)?;
-        if ended != status || written.as_slice() != text {
-            println!(rt; "{}", ended)?;
-            println!(rt; "{}", String::from_utf8_lossy(alloc, &written)?)?;
-        }
-        assert!(rt; ended == status && written.as_slice() == text);
+    for (place, row) in ROWS.iter().enumerate() {
+        assert!(rt; is_answered(alloc, row)?, "row {place}");
     }
     Ok(())
+}
+
+/// Whether the second stream is answered so.
+fn is_answered_behind_a_stop(alloc: Global, row: &Stopped) -> Result<bool, Fail> {
+    let (first, before, operators, stream, text) = *row;
+    let calls = [
+        (["+"].as_slice(), RECORDS),
+        (first, before),
+        (operators, stream),
+    ];
+    let (ended, written) = told_in_turn(alloc, CARDS, &calls)?;
+    Ok(ended == 0 && written.as_slice() == text)
 }
 
 #[test]
 fn what_waits_and_what_is_held_behind_a_stop(rt: HostRuntime) -> Result<(), Fail> {
     let alloc = rt.alloc();
-    for (first, before, operators, stream, text) in STOPPED {
-        let calls = [
-            (["+"].as_slice(), RECORDS),
-            (first, before),
-            (operators, stream),
-        ];
-        let (ended, written) = told_in_turn(alloc, CARDS, &calls)?;
-        if ended != 0 || written.as_slice() != text {
-            println!(rt; "{}", ended)?;
-            println!(rt; "{}", String::from_utf8_lossy(alloc, &written)?)?;
-        }
-        assert!(rt; ended == 0 && written.as_slice() == text);
+    for (place, row) in STOPPED.iter().enumerate() {
+        assert!(rt; is_answered_behind_a_stop(alloc, row)?, "row {place}");
     }
     Ok(())
 }
 
+/// A run that waits for the operator's answer, who restarts it.
+const WAITING: &[u8] =
+    b"//J JOB RD=R\n//S EXEC PGM=IEFBR14\n//*\n//\n$T 1 2\n$F 1 S001\n$S\n$T 1 1\n";
+
 /// The deck takes 254 bytes of the book, its selection 17, its start 12 and its restart 15, and one more behind them. A question takes none.
+static BOOKS: [(&[u8], u8, &[u8]); 2] = [
+    (
+        b"BOOK 298\nVOLUME VOL001 2000\n",
+        3,
+        b"J0000001 J SUBMITTED\nI1 J0000001 SELECTED\nI1 J0000001 S STARTED\nI1 AWAITING REPLY\nOPERATOR 2\n",
+    ),
+    (
+        b"BOOK 299\nVOLUME VOL001 2000\n",
+        0,
+        b"J0000001 J SUBMITTED\nI1 J0000001 SELECTED\nI1 J0000001 S STARTED\nI1 AWAITING REPLY\nOPERATOR 2\nI1 J0000001 S RESTARTED AT STEP\n",
+    ),
+];
+
+/// Whether it ends so on a disk of these cards.
+fn ends_so(alloc: Global, row: &(&[u8], u8, &[u8])) -> Result<bool, Fail> {
+    let (cards, status, text) = *row;
+    let calls = [(["", "Y"].as_slice(), WAITING)];
+    let (ended, written) = told_in_turn(alloc, cards, &calls)?;
+    Ok(ended == status && written.as_slice() == text)
+}
+
 #[test]
 fn a_book_without_room_for_what_the_operator_decides(rt: HostRuntime) -> Result<(), Fail> {
     let alloc = rt.alloc();
-    let stream =
-        b"//J JOB RD=R\n//S EXEC PGM=IEFBR14\n//*\n//\n$T 1 2\n$F 1 S001\n$S\n$T 1 1\n".as_slice();
-    let before =
-        b"J0000001 J SUBMITTED\nI1 J0000001 SELECTED\nI1 J0000001 S STARTED\nI1 AWAITING REPLY\nOPERATOR 2\n".as_slice();
-    let behind = b"I1 J0000001 S RESTARTED AT STEP\n".as_slice();
-    let table = [
-        (
-            b"BOOK 298\nVOLUME VOL001 2000\n".as_slice(),
-            3,
-            b"".as_slice(),
-        ),
-        (b"BOOK 299\nVOLUME VOL001 2000\n".as_slice(), 0, behind),
-    ];
-    for (cards, status, more) in table {
-        let calls = [(["", "Y"].as_slice(), stream)];
-        let (ended, written) = told_in_turn(alloc, cards, &calls)?;
-        let mut text = before.to_vec(alloc)?;
-        text.extend_from_slice(more)?;
-        assert!(rt; ended == status && written.as_slice() == text.as_slice());
+    for (place, row) in BOOKS.iter().enumerate() {
+        assert!(rt; ends_so(alloc, row)?, "row {place}");
     }
     Ok(())
 }

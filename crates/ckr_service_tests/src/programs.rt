@@ -5,7 +5,7 @@ use std::alloc::{AllocError, Global};
 use std::test::Fail;
 
 /// The step of a job for each program that takes checkpoints.
-const STEPS: [&[u8]; 6] = [
+static STEPS: [&[u8]; 6] = [
     b"//S EXEC PGM=COPY,PARM='CHK=2'\n//SYSUT1 DD DSN=M.A,DISP=SHR\n//SYSUT2 DD DSN=OUT.J,DISP=(NEW,CATLG),SPACE=(80,9)\n//CHKDD DD DSN=CHK.J,DISP=(NEW,CATLG),SPACE=(256,50)\n//\n",
     b"//S EXEC PGM=SELECT,PARM='COL=4,VAL=2,CHK=2'\n//SYSUT1 DD DSN=M.A,DISP=SHR\n//SYSUT2 DD DSN=OUT.J,DISP=(NEW,CATLG),SPACE=(80,9)\n//CHKDD DD DSN=CHK.J,DISP=(NEW,CATLG),SPACE=(256,50)\n//\n",
     b"//S EXEC PGM=MERGE,PARM='KEY=1:4,CHK=2'\n//IN1 DD DSN=M.A,DISP=SHR\n//IN2 DD *\n0001ZZ\n0004YY\n/*\n//OUT DD DSN=OUT.J,DISP=(NEW,CATLG),SPACE=(80,9)\n//CHKDD DD DSN=CHK.J,DISP=(NEW,CATLG),SPACE=(256,50)\n//\n",
@@ -18,7 +18,7 @@ const STEPS: [&[u8]; 6] = [
 type Way = (&'static [u8], &'static [u8], &'static [u8]);
 
 /// At the first of one checkpoint and of two, at the second, and behind a stop.
-const WAYS: [Way; 4] = [
+static WAYS: [Way; 4] = [
     (
         b"$T 1 6\n$F 1 S001\n",
         b"//J JOB RESTART=(S,C0000001)\n//SYSCHK DD DSN=CHK.J,DISP=OLD\n",
@@ -42,7 +42,7 @@ const WAYS: [Way; 4] = [
 ];
 
 /// The step of a job for each program, which deletes its outputs where it fails, and how the job is failed within it.
-const STARTS: [(&[u8], &[u8]); 7] = [
+static STARTS: [(&[u8], &[u8]); 7] = [
     (
         b"//S EXEC PGM=COPY\n//SYSUT1 DD DSN=M.A,DISP=SHR\n//SYSUT2 DD DSN=OUT.J,DISP=(NEW,CATLG,DELETE),SPACE=(80,9)\n//\n",
         b"$T 1 5\n$F 1 S001\n",

@@ -18,6 +18,30 @@ fn calls_of(alloc: Global, stream: &[u8]) -> Result<u64, Fail> {
     Ok(ended.disk.calls().len() as u64)
 }
 
+/// Whether a stop at this call restarts the step at one of two checkpoints: at the first one before the turn's first call, and at the second
+/// behind its last one.
+fn restarts_at_one_of_two(
+    alloc: Global,
+    before: u64,
+    behind: u64,
+    stop_at: u64,
+    pick: Pick,
+) -> Result<bool, Fail> {
+    let first = b"I1 J0000002 S1 RESTARTED AT C0000001 TAKEN 20 CHKPT 04\n";
+    let second = b"I1 J0000002 S1 RESTARTED AT C0000002 TAKEN 40 CHKPT 04\n";
+    let disk = formatted(alloc, CARDS, SIZE, None, Some(stop_at))?;
+    let ended = call(alloc, "run", BEHIND, disk)?;
+    let again = call(alloc, "run", b"$T 1 1\n", ended.disk.stop(pick))?;
+    let one = again.text.as_slice() == first.as_slice();
+    let two = again.text.as_slice() == second.as_slice();
+    Ok(
+        (ended.status == 0) == (stop_at == behind)
+            && (one || two)
+            && (one || stop_at != before)
+            && (two || stop_at != behind),
+    )
+}
+
 /// Stopped before the event of the checkpoint is written the step is restarted at the first checkpoint, behind the event at the second, and
 /// while the event is written at one of the two.
 #[test]
@@ -25,60 +49,15 @@ fn a_stop_within_a_checkpoint_restarts_at_it_or_at_the_one_before(
     rt: HostRuntime,
 ) -> Result<(), Fail> {
     let alloc = rt.alloc();
-    let first = b"I1 J0000002 S1 RESTARTED AT C0000001 TAKEN 20 CHKPT 04\n";
-    let second = b"I1 J0000002 S1 RESTARTED AT C0000002 TAKEN 40 CHKPT 04\n";
     let before = calls_of(alloc, BEFORE)?;
     let behind = calls_of(alloc, BEHIND)?;
     assert!(rt; before < behind);
     for pick in [Pick::Kept, Pick::Lost, Pick::Filled(165)] {
         for stop_at in before..=behind {
-            let disk = formatted(alloc, CARDS, SIZE, None, Some(stop_at))?;
-            let ended = call(alloc, "run", BEHIND, disk)?;
             assert!(rt;
-                (ended.status == 0) == (stop_at == behind),
+                restarts_at_one_of_two(alloc, before, behind, stop_at, pick)?,
                 "call {stop_at}"
             );
-            let again = call(alloc, "run", b"$T 1 1\n", ended.disk.stop(pick))?;
-            let one = again.text.as_slice() == first.as_slice();
-            let two = again.text.as_slice() == second.as_slice();
-            assert!(rt; one || two, "call {stop_at}");
-            assert!(rt; one || stop_at != before, "call {stop_at}");
-            assert!(rt; two || stop_at != behind, "call {stop_at}");
-        }
-    }
-    Ok(())
-}
-
-/// UPDATE up to its first rewrite since its checkpoint, and that unit too.
-const UNWRITTEN: &[u8] =
-    b"//MAKE JOB\n//S1 EXEC PGM=COPY\n//SYSUT1 DD *\n0001AA\n0002BB\n0003CC\n/*\n//SYSUT2 DD DSN=M.A,DISP=(NEW,CATLG),SPACE=(80,3)\n//\n$T 1 99\n//UPD JOB\n//S1 EXEC PGM=UPDATE,PARM='KEY=1:4,CHK=2'\n//MASTER DD DSN=M.A,DISP=OLD\n//TRANS DD *\nC0003NEW\n/*\n//REJECTS DD SYSOUT=A\n//CHKDD DD DSN=CHK.K,DISP=(NEW,CATLG,CATLG),SPACE=(256,4)\n//\n$T 1 6\n";
-
-const REWRITTEN: &[u8] =
-    b"//MAKE JOB\n//S1 EXEC PGM=COPY\n//SYSUT1 DD *\n0001AA\n0002BB\n0003CC\n/*\n//SYSUT2 DD DSN=M.A,DISP=(NEW,CATLG),SPACE=(80,3)\n//\n$T 1 99\n//UPD JOB\n//S1 EXEC PGM=UPDATE,PARM='KEY=1:4,CHK=2'\n//MASTER DD DSN=M.A,DISP=OLD\n//TRANS DD *\nC0003NEW\n/*\n//REJECTS DD SYSOUT=A\n//CHKDD DD DSN=CHK.K,DISP=(NEW,CATLG,CATLG),SPACE=(256,4)\n//\n$T 1 7\n";
-
-/// Stopped at each call of the turn in which UPDATE rewrites a record, between its event and its record too. Where the event is on the disk, opening
-/// writes the record, and the run ends by rule A4, since a record was rewritten after its checkpoint; else it is restarted there, and the
-/// record is as it was.
-#[test]
-fn a_stop_within_a_rewrite_leaves_all_of_it_or_nothing(rt: HostRuntime) -> Result<(), Fail> {
-    let alloc = rt.alloc();
-    let look = b"$T 1 1\n$F 1 S002\n$R M.A\n";
-    let ended = b"I1 J0000002 ENDED S2F3 A4\nI1 NOTHING TO FAIL\n=0001AA\n=0002BB\n=0003NEW\n";
-    let restarted =
-        b"I1 J0000002 S1 RESTARTED AT C0000001 TAKEN 2 CHKPT 04\nI1 J0000002 ENDED S002 A3\n=0001AA\n=0002BB\n=0003CC\n";
-    let before = calls_of(alloc, UNWRITTEN)?;
-    let behind = calls_of(alloc, REWRITTEN)?;
-    assert!(rt; before < behind);
-    for pick in [Pick::Kept, Pick::Lost, Pick::Filled(165)] {
-        for stop_at in before..=behind {
-            let disk = formatted(alloc, CARDS, SIZE, None, Some(stop_at))?;
-            let stopped = call(alloc, "run", REWRITTEN, disk)?;
-            let again = call(alloc, "run", look, stopped.disk.stop(pick))?;
-            let all = again.text.as_slice() == ended.as_slice();
-            let nothing = again.text.as_slice() == restarted.as_slice();
-            assert!(rt; all || nothing, "call {stop_at}");
-            assert!(rt; nothing || stop_at != before, "call {stop_at}");
-            assert!(rt; all || stop_at != behind, "call {stop_at}");
         }
     }
     Ok(())
@@ -124,9 +103,20 @@ type Turn = (
     &'static [u8],
 );
 
+/// Stopped at each call of the turn in which UPDATE rewrites a record, between its event and its record too. Where the event is on the disk, opening
+/// writes the record, and the run ends by rule A4, since a record was rewritten after its checkpoint; else it is restarted there, and the
+/// record is as it was. The streams go up to its first rewrite since its checkpoint, and up to behind that unit.
+static REWRITING: [Turn; 1] = [(
+    b"//MAKE JOB\n//S1 EXEC PGM=COPY\n//SYSUT1 DD *\n0001AA\n0002BB\n0003CC\n/*\n//SYSUT2 DD DSN=M.A,DISP=(NEW,CATLG),SPACE=(80,3)\n//\n$T 1 99\n//UPD JOB\n//S1 EXEC PGM=UPDATE,PARM='KEY=1:4,CHK=2'\n//MASTER DD DSN=M.A,DISP=OLD\n//TRANS DD *\nC0003NEW\n/*\n//REJECTS DD SYSOUT=A\n//CHKDD DD DSN=CHK.K,DISP=(NEW,CATLG,CATLG),SPACE=(256,4)\n//\n$T 1 6\n",
+    b"//MAKE JOB\n//S1 EXEC PGM=COPY\n//SYSUT1 DD *\n0001AA\n0002BB\n0003CC\n/*\n//SYSUT2 DD DSN=M.A,DISP=(NEW,CATLG),SPACE=(80,3)\n//\n$T 1 99\n//UPD JOB\n//S1 EXEC PGM=UPDATE,PARM='KEY=1:4,CHK=2'\n//MASTER DD DSN=M.A,DISP=OLD\n//TRANS DD *\nC0003NEW\n/*\n//REJECTS DD SYSOUT=A\n//CHKDD DD DSN=CHK.K,DISP=(NEW,CATLG,CATLG),SPACE=(256,4)\n//\n$T 1 7\n",
+    b"$T 1 1\n$F 1 S002\n$R M.A\n",
+    b"I1 J0000002 S1 RESTARTED AT C0000001 TAKEN 2 CHKPT 04\nI1 J0000002 ENDED S002 A3\n=0001AA\n=0002BB\n=0003CC\n",
+    b"I1 J0000002 ENDED S2F3 A4\nI1 NOTHING TO FAIL\n=0001AA\n=0002BB\n=0003NEW\n",
+)];
+
 /// A job goes on at a checkpoint of an earlier one: it waits still, and goes on there, or it was running, and is restarted there. It goes on at the start of a step, which is begun
 /// next. And it is denied.
-const TAKEN_UP: [Turn; 3] = [
+static TAKEN_UP: [Turn; 3] = [
     (
         b"//K JOB RD=NR\n//S1 EXEC PGM=COPY,PARM='CHK=2'\n//SYSUT1 DD *\nA\nB\nC\nD\nE\n/*\n//SYSUT2 DD DSN=OUT.K,DISP=(NEW,CATLG,CATLG),SPACE=(80,9)\n//CHKDD DD DSN=CHK.K,DISP=(NEW,CATLG,CATLG),SPACE=(256,9)\n//\n$T 1 6\n$F 1 S001\n//K JOB RESTART=(S1,C0000001)\n//SYSCHK DD DSN=CHK.K,DISP=OLD\n//S1 EXEC PGM=COPY,PARM='CHK=2'\n//SYSUT1 DD *\nA\nB\nC\nD\nE\n/*\n//SYSUT2 DD DSN=OUT.K,DISP=(NEW,CATLG,CATLG),SPACE=(80,9)\n//CHKDD DD DSN=CHK.K,DISP=(NEW,CATLG,CATLG),SPACE=(256,9)\n//\n",
         b"//K JOB RD=NR\n//S1 EXEC PGM=COPY,PARM='CHK=2'\n//SYSUT1 DD *\nA\nB\nC\nD\nE\n/*\n//SYSUT2 DD DSN=OUT.K,DISP=(NEW,CATLG,CATLG),SPACE=(80,9)\n//CHKDD DD DSN=CHK.K,DISP=(NEW,CATLG,CATLG),SPACE=(256,9)\n//\n$T 1 6\n$F 1 S001\n//K JOB RESTART=(S1,C0000001)\n//SYSCHK DD DSN=CHK.K,DISP=OLD\n//S1 EXEC PGM=COPY,PARM='CHK=2'\n//SYSUT1 DD *\nA\nB\nC\nD\nE\n/*\n//SYSUT2 DD DSN=OUT.K,DISP=(NEW,CATLG,CATLG),SPACE=(80,9)\n//CHKDD DD DSN=CHK.K,DISP=(NEW,CATLG,CATLG),SPACE=(256,9)\n//\n$T 1 1\n",
@@ -180,16 +170,30 @@ fn each_stop_leaves_all_or_nothing(alloc: Global, turn: &Turn, pick: Pick) -> Re
     Ok(before < behind)
 }
 
+/// The same for each picture.
+fn stops_leave_all_or_nothing(alloc: Global, turn: &Turn) -> Result<bool, Fail> {
+    for pick in [Pick::Kept, Pick::Lost, Pick::Filled(165)] {
+        if !each_stop_leaves_all_or_nothing(alloc, turn, pick)? {
+            return Ok(false);
+        }
+    }
+    Ok(true)
+}
+
+#[test]
+fn a_stop_within_a_rewrite_leaves_all_of_it_or_nothing(rt: HostRuntime) -> Result<(), Fail> {
+    let alloc = rt.alloc();
+    for turn in &REWRITING {
+        assert!(rt; stops_leave_all_or_nothing(alloc, turn)?);
+    }
+    Ok(())
+}
+
 #[test]
 fn a_stop_within_the_turn_that_takes_up_a_job_with_restart(rt: HostRuntime) -> Result<(), Fail> {
     let alloc = rt.alloc();
     for (place, turn) in TAKEN_UP.iter().enumerate() {
-        for pick in [Pick::Kept, Pick::Lost, Pick::Filled(165)] {
-            assert!(rt;
-                each_stop_leaves_all_or_nothing(alloc, turn, pick)?,
-                "turn {place}"
-            );
-        }
+        assert!(rt; stops_leave_all_or_nothing(alloc, turn)?, "turn {place}");
     }
     Ok(())
 }

@@ -28,7 +28,9 @@ fn is_as_expected(read: &Result<Command, WordsError>, expected: &Expected) -> bo
 }
 
 /// Words, what they are, and the place of DISK.
-const WORDS: [(&str, Expected, Option<u32>); 32] = [
+type Row = (&'static str, Expected, Option<u32>);
+
+static WORDS: [Row; 32] = [
     ("format X", Expected::Format, Some(1)),
     ("run X", Expected::Run(1), Some(1)),
     ("run X --reply Y", Expected::Run(1), Some(1)),
@@ -71,16 +73,18 @@ fn words_of(alloc: Global, line: &str) -> Result<Vec<String>, AllocError> {
     Ok(words)
 }
 
+/// Whether words are read so.
+fn is_read(alloc: Global, row: &Row) -> Result<bool, AllocError> {
+    let (line, expected, place) = row;
+    let words = words_of(alloc, line)?;
+    Ok(is_as_expected(&read_words(alloc, &words), expected) && disk_place(&words) == *place)
+}
+
 #[test]
 fn words_are_read(rt: HostRuntime) -> Result<(), Fail> {
     let alloc = rt.alloc();
-    for (line, expected, place) in WORDS {
-        let words = words_of(alloc, line)?;
-        assert!(rt;
-            is_as_expected(&read_words(alloc, &words), &expected),
-            "{line}"
-        );
-        assert!(rt; disk_place(&words) == place, "{line}");
+    for row in &WORDS {
+        assert!(rt; is_read(alloc, row)?, "{}", row.0);
     }
     Ok(())
 }
