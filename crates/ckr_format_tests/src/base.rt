@@ -9,7 +9,7 @@ use std::test::Fail;
 /// A text, and the code that it spells.
 type CodeRow = (&'static [u8], Option<Code>);
 
-const CODE_ROWS: [CodeRow; 9] = [
+static CODE_ROWS: [CodeRow; 9] = [
     (b"S0C7", Some(Code::System(199))),
     (b"U4095", Some(Code::User(4095))),
     (b"SB37", Some(Code::System(2871))),
@@ -49,7 +49,7 @@ fn codes_have_the_spellings_of_the_formats(rt: HostRuntime) {
 /// A text, and whether it is a name, the name of a data set, a serial and an identifier.
 type NameRow = (&'static [u8], bool, bool, bool, bool);
 
-const NAME_ROWS: [NameRow; 15] = [
+static NAME_ROWS: [NameRow; 15] = [
     (b"A", true, true, true, true),
     (b"PAYROLL8", true, true, false, true),
     (b"PAYROLL89", false, false, false, true),

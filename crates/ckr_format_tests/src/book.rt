@@ -34,7 +34,7 @@ const WITHOUT: u32 = 51;
 
 const WITH: u32 = 41;
 
-const PICKS: [Pick; 5] = [
+static PICKS: [Pick; 5] = [
     Pick::Kept,
     Pick::Lost,
     Pick::Filled(0),
@@ -45,7 +45,7 @@ const PICKS: [Pick; 5] = [
 /// A call of the third append, and the room that each pick leaves of a stop there.
 type Stop = (u64, [u32; 5]);
 
-const STOPS: [Stop; 7] = [
+static STOPS: [Stop; 7] = [
     (14, [WITHOUT, WITHOUT, WITHOUT, WITHOUT, WITHOUT]),
     (15, [WITHOUT, WITHOUT, WITHOUT, WITHOUT, WITHOUT]),
     (16, [WITHOUT, WITHOUT, WITHOUT, WITHOUT, WITHOUT]),

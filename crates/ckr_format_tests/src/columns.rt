@@ -5,7 +5,7 @@ use ckr_base::{Rec, columns, decimal_text, fitted, last_digits};
 /// A record, a length of 1 to 256, and the record at that length.
 type FittedRow = (&'static [u8], u16, &'static [u8]);
 
-const FITTED_ROWS: [FittedRow; 4] = [
+static FITTED_ROWS: [FittedRow; 4] = [
     (b"ABCDE", 3, b"ABC"),
     (b"ABC", 3, b"ABC"),
     (b"AB", 5, b"AB   "),
@@ -27,7 +27,7 @@ fn records_are_cut_or_filled(rt: HostRuntime) {
 /// A record, a column, which is counted from 1, how many there are, at most 32, and what stands there.
 type ColumnRow = (&'static [u8], u16, u16, &'static [u8]);
 
-const COLUMN_ROWS: [ColumnRow; 4] = [
+static COLUMN_ROWS: [ColumnRow; 4] = [
     (b"ABCDE", 2, 3, b"BCD"),
     (b"ABCDE", 4, 3, b"DE "),
     (b"AB", 9, 2, b"  "),
@@ -53,7 +53,7 @@ fn columns_beyond_the_record_are_blanks(rt: HostRuntime) {
 /// A number, and its digits.
 type DecimalRow = (u128, &'static [u8]);
 
-const DECIMAL_ROWS: [DecimalRow; 4] = [
+static DECIMAL_ROWS: [DecimalRow; 4] = [
     (0, b"0"),
     (7, b"7"),
     (1_000, b"1000"),

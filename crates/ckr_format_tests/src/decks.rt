@@ -45,7 +45,7 @@ fn is_told(alloc: Global, row: &Row) -> Result<bool, AllocError> {
 }
 
 /// For each of J01 to J11 a deck and the card.
-const STATEMENTS: [Row; 11] = [
+static STATEMENTS: [Row; 11] = [
     (
         b"FOO                                                                             X",
         1,
@@ -88,7 +88,7 @@ fn refused_statements(rt: HostRuntime) -> Result<(), Fail> {
 }
 
 /// For each of J12 to J24 a deck and the card.
-const DECKS: [Row; 13] = [
+static DECKS: [Row; 13] = [
     (b"//J JOB RESTART=T\n//S EXEC PGM=IEFBR14", 12, 1),
     (b"//J JOB RESTART=(S,A)\n//S EXEC PGM=IEFBR14", 13, 1),
     (b"//J JOB\n//S EXEC PGM=SORT", 14, 2),

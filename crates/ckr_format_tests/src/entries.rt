@@ -90,7 +90,7 @@ const PART: &str =
     "ffffffffffffffffffffffffffffffffffffffffffffffffffffffffffffffffffffffffffffffffffffffffffffffffffffffffffffffffffffffffffffffff";
 
 /// The texts of entries of each kind, with each field at its least and at its greatest.
-const ENTRIES: [&[&str]; 14] = [
+static ENTRIES: [&[&str]; 14] = [
     &[LEAST, FEW, "01", ZERO, NO_SETS],
     &[GREATEST, MANY, "01", MILLION, SETS],
     &[LEAST, FEW, "02", ZERO, NO_SETS],
@@ -157,7 +157,7 @@ fn each_kind_is_read_and_written(rt: HostRuntime) -> Result<(), Fail> {
 /// Bytes that are no entry, in two parts, and where that shows.
 type Fault = (&'static str, &'static str, usize);
 
-const FAULTS: [Fault; 28] = [
+static FAULTS: [Fault; 28] = [
     ("434b5055 0130 0141", "", 0),
     ("434b5054 00", "", 4),
     ("434b5054 0161", "", 4),
@@ -333,7 +333,7 @@ fn is_entry_of(alloc: Global, point: &Point, bytes: &[u8]) -> Result<bool, NoMem
 }
 
 /// The bytes of its entry.
-const WORKED: [&str; 6] = [
+static WORKED: [&str; 6] = [
     "434b5054 084330303030303031 014b 00000002 00000002 01 025331 00000001",
     "00000014 00000014 01 00000014 00000000 00000000 00000001 0003",
     "0543484b2e4b 01 00 0100 00000014 00000001 00 00000002 01 00000000",

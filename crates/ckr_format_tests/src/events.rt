@@ -55,7 +55,7 @@ fn is_event(alloc: Global, text: &str) -> Result<bool, NoMemory> {
 }
 
 /// Each kind with its fields at their least and at their greatest.
-const EVENTS: [&str; 31] = [
+static EVENTS: [&str; 31] = [
     "01 00000000 00000000",
     "01 ffffffff 00000001 2f2f4a204a4f4220202020202020202020202020202020202020202020202020202020202020202020202020202020202020202020202020202020202020202020202020202020202020202020202020",
     "02 00000000 00 00000000 00 00",
@@ -100,7 +100,7 @@ fn each_kind_is_read_and_written(rt: HostRuntime) -> Result<(), Fail> {
 /// Bytes that are no event, and where that shows.
 type Fault = (&'static str, usize);
 
-const FAULTS: [Fault; 23] = [
+static FAULTS: [Fault; 23] = [
     ("00 00000001", 0),
     ("0e 00000001", 0),
     ("02 00000001 01 00000000 00 11", 11),

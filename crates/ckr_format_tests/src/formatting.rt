@@ -82,7 +82,7 @@ fn worked_installation(rt: HostRuntime) -> Result<(), Fail> {
 /// Cards, the size of the disk, and the line that refuses them.
 type Refused = (&'static [u8], u64, &'static [u8]);
 
-const REFUSALS: [Refused; 4] = [
+static REFUSALS: [Refused; 4] = [
     (CARDS, 500_511, b"LINE 6 REFUSED\n"),
     (b"", 500_512, b"NO VOLUME\n"),
     (b"\n \nUNITS 0\n", 500_512, b"LINE 3 REFUSED\n"),
@@ -107,7 +107,7 @@ fn refused_cards(rt: HostRuntime) -> Result<(), Fail> {
 type Failed = (Failing, FormatOutcome, usize);
 
 /// Formatting makes seven calls: the gate and a sync, the fields, the book's gate and a sync, the gate and a sync.
-const FAILURES: [Failed; 7] = [
+static FAILURES: [Failed; 7] = [
     ((0, NEVER, NEVER), FormatOutcome::SourceFailed, 0),
     ((1, NEVER, NEVER), FormatOutcome::SourceFailed, 0),
     ((NEVER, 0, NEVER), FormatOutcome::SinkFailed, 7),

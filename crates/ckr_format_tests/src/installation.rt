@@ -46,7 +46,7 @@ fn are_its_volumes(volumes: &[Volume]) -> bool {
 }
 
 /// The codes after which a restart is permitted where no card says so.
-const CODES: [Code; 3] = [
+static CODES: [Code; 3] = [
     Code::System(0x001),
     Code::System(0x2f3),
     Code::System(0xb37),
@@ -87,7 +87,7 @@ fn what_no_card_says(rt: HostRuntime) {
     assert!(rt; goes_by_default(1_050_112));
 }
 
-const TABS: [&str; 3] = ["UNITS\t3", "ELIGIBLE\tU0001\tSFFF", "VOLUME\tA 1024"];
+static TABS: [&str; 3] = ["UNITS\t3", "ELIGIBLE\tU0001\tSFFF", "VOLUME\tA 1024"];
 
 /// Cards whose words are parted by tabs are accepted, and say this.
 fn parts_words(size: u64) -> bool {
@@ -113,7 +113,7 @@ fn is_refused(lines: &[&str], size: u64, number: u32) -> bool {
     }
 }
 
-const REFUSED_LINES: [&str; 23] = [
+static REFUSED_LINES: [&str; 23] = [
     "INITIATORS 0",
     "INITIATORS 9",
     "INITIATORS 02",
@@ -149,7 +149,7 @@ fn lines_that_are_refused(rt: HostRuntime) {
     }
 }
 
-const SINGLE_CARDS: [&str; 4] = ["INITIATORS 1", "UNITS 1", "BOOK 256", "ELIGIBLE S001"];
+static SINGLE_CARDS: [&str; 4] = ["INITIATORS 1", "UNITS 1", "BOOK 256", "ELIGIBLE S001"];
 
 /// The card may stand once.
 fn is_single(card: &str) -> bool {
@@ -169,7 +169,7 @@ const CARDS: [&str; 3] = ["VOLUME A 2000", "BOOK 1000", "VOLUME B 3000"];
 /// Cards, the size of the disk, and the line that refuses them.
 type SizeRow = (&'static [&'static str], u64, u32);
 
-const SIZE_ROWS: [SizeRow; 6] = [
+static SIZE_ROWS: [SizeRow; 6] = [
     (&WORKED, 500_511, 5),
     (&["VOLUME A 1024"], 1_050_111, 1),
     (&CARDS, 2_511, 1),

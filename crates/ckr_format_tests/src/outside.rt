@@ -155,7 +155,7 @@ fn are_answered(disk: &mut MemDisk) -> bool
 }
 
 /// These calls.
-const CALLS: [DiskCall; 4] = [
+static CALLS: [DiskCall; 4] = [
     DiskCall {
         kind: CallKind::Write,
         at: 6,

@@ -9,7 +9,7 @@ use std::test::Fail;
 /// A program, a PARM, and the place of its error, or 100 where it is accepted.
 type Row = (Kind, &'static [u8], u8);
 
-const ROWS: [Row; 5] = [
+static ROWS: [Row; 5] = [
     (Kind::Copy, b"IDS=A,CHK=20,CANCEL=30", 100),
     (Kind::Copy, b"CHK=20,CANCEL=030", 7),
     (Kind::Master, b"CHK=1", 5),

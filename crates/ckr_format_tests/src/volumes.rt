@@ -53,7 +53,7 @@ fn header_both_ways(rt: HostRuntime) -> Result<(), Fail> {
 /// The place of a byte, what it is changed to, and why the header is refused then.
 type Change = (usize, u8, HeaderError);
 
-const CHANGES: [Change; 15] = [
+static CHANGES: [Change; 15] = [
     (0, 0, HeaderError::NotFormatted),
     (4, b'X', HeaderError::NotFormatted),
     (6, 3, HeaderError::Version(3)),
