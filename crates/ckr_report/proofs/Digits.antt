@@ -59,3 +59,7 @@ length-padded k width n some small fits =
 -- there is room for a number, and for one with zeros before it
 pub room-padded : (len most k width n : ℕ) → len + most ≤ 400 → width + k ≤ most → 0 < k → n < 10 ^ k → n < 2 ^ 64 → len + length (padded width n) ≤ 400
 room-padded len most k width n room wide some small fits = omega (arith, length-padded k width n some small fits)
+
+-- and so many bytes at most are put
+pub few-padded : (old new : List ℕ) (most k width n : ℕ) → new ≡ old ++ padded width n → width + k ≤ most → 0 < k → n < 10 ^ k → n < 2 ^ 64 → length new ≤ length old + most
+few-padded old new most k width n text wide some small fits = omega (arith, ap length text, length-append old (padded width n), length-padded k width n some small fits)

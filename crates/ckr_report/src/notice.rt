@@ -3,7 +3,6 @@ ghost use Rattle.std.specs.Prelude.{◌≡◌, ◌≤◌, ◌+◌, [], ◌++◌,
 ghost use Rattle.std.specs.Option.{option_copied};
 ghost use Rattle.arrayvec.specs.ArrayVec.{array_vec_len};
 ghost use Rattle.ckr_report.specs.Notices.{accepted_text, deck_refused_text, formatted_text, line_refused_text, no_volume_text, operator_text, purged_text, released_text, totals_text};
-ghost use Rattle.ckr_report.specs.Numbers.{two_digits};
 
 use crate::name::short_name;
 use crate::text_line::{TextLine, counted, job, put};
@@ -34,14 +33,6 @@ pub fn acceptance_line(number: u32, name: Option<&Name8>, out: &mut TextLine)
     put(b" SUBMITTED\n", out);
 }
 
-fn two_digits(number: u8, out: &mut TextLine)
-    requires room { array_vec_len out.old + 2 ≤ 400 }
-    ensures text { out.new.items ≡ out.old.items ++ two_digits number }
-    ensures few { array_vec_len out.new ≤ array_vec_len out.old + 2 }
-{
-    put(&[b'0' + number / 10, b'0' + number % 10], out);
-}
-
 /// The line for a deck that is refused by the rule of a number, at a card, counted from 1.
 pub fn deck_refusal_line(rule: u8, card: u32, out: &mut TextLine)
     requires empty { out.old.items ≡ [] }
@@ -49,7 +40,7 @@ pub fn deck_refusal_line(rule: u8, card: u32, out: &mut TextLine)
     ensures bound { length (deck_refused_text rule card) ≤ 400 }
 {
     put(b"DECK REFUSED J", out);
-    two_digits(rule, out);
+    put(&[b'0' + rule / 10, b'0' + rule % 10], out);
     counted(b" CARD ", u64::from(card), out);
     put(b"\n", out);
 }
