@@ -25,11 +25,11 @@ fn no_sets(out: &mut Text) -> Result<(), NoMemory>
     out.push(line.as_slice())
 }
 
-fn set_line(layout: &Layout, listed: &Listed, out: &mut Text) -> Result<(), NoMemory>
-    ensures { OnOk result (out.new ≡ out.old ++ set_text layout.now (listed.now.name, listed.now.set)) }
+fn set_line(layout: &Layout, data_set: &Listed, out: &mut Text) -> Result<(), NoMemory>
+    ensures { OnOk result (out.new ≡ out.old ++ set_text layout.now (data_set.now.name, data_set.now.set)) }
 {
     let mut line = TextLine::new();
-    library_line(&listed.name, &listed.set, layout, &mut line);
+    library_line(&data_set.name, &data_set.set, layout, &mut line);
     out.push(line.as_slice())
 }
 
