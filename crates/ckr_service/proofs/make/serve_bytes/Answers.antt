@@ -1,5 +1,7 @@
 use Rattle.std.proofs.Common.{Some, ap, map, sym, ◌∙◌}
+use Rattle.ckr_service.specs.Completeness.{GivesAll}
 use Rattle.ckr_service.specs.Faultless.{bytes_left}
+use Rattle.ckr_service.specs.Feeds.{faults_of}
 use Rattle.ckr_service.specs.Staff.{staffed_with}
 use Rattle.ckr_service.proofs.MadeDisks.{not_rose}
 use Rattle.ckr_service.proofs.MadeEnds.{lacks-memory, line-completes}
@@ -24,7 +26,8 @@ returns-clause-runs g c =
 pub returns-then-not-is_whole-clause-completes : goal.returns-then-not-is_whole-clause-completes
 returns-then-not-is_whole-clause-completes g c = λ all state opens works fits.
     let r = c.run-status in
-    let gives = record { bytes = ap Some c.new-source.ensures; few = c.requires.few; works = record { source = not_rose; sink = not_rose; disk = works.disk } } in
+    let faults = faults_of 0 0 0 0 (g.D.Disk.faults c.args.disk) (g.D.Disk.faults r.result.disk) in
+    let gives : GivesAll c.args.bytes.items (Some (bytes_left c.new-source.result)) faults = record { bytes = ap Some c.new-source.ensures; few = c.requires.few; works = record { source = not_rose; sink = not_rose; disk = works.disk } } in
     lacks-memory r.result.status (staffed_with (map g.O.Operator.answering c.args.operators.items) state) c.args.bytes.items (sym c.is_whole.ensures ∙ c.if-not-is_whole.true)
     (r.ensures.completes all state c.args.bytes.items opens gives fits)
 
