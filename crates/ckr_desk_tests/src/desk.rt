@@ -6,7 +6,7 @@ ghost use Rattle.ckr_volumes.specs.Layouts.{disk_needed};
 use arrayvec::ArrayVec;
 use ckr_base::{Code, DsName, Volser, trimmed};
 use ckr_console::{Answer, Standing};
-use ckr_desk::{Desk, DeskError, OpenError};
+use ckr_desk::{Desk, DeskError, Listed, OpenError};
 use ckr_desk_turn::{Reply, Submitted, Turn};
 use ckr_journal::format;
 use ckr_outside::MemDisk;
@@ -52,12 +52,51 @@ fn open(alloc: Global, disk: MemDisk) -> Result<Desk<MemDisk, Standing>, Fail> {
     }
 }
 
+// Each call of the desk stands in one helper, so that its clauses are seen there alone.
+
+/// Hands the disk back.
+fn close(desk: Desk<MemDisk, Standing>) -> MemDisk {
+    desk.close()
+}
+
+/// The data set at a place of the library.
+fn listed_at(desk: &Desk<MemDisk, Standing>, place: u32) -> Option<Listed> {
+    desk.set_at(place)
+}
+
+/// Submits cards. None where they haven't 81 bytes each, or are more than a hundred.
+fn submitted(
+    desk: &mut Desk<MemDisk, Standing>,
+    cards: &[u8],
+) -> Option<Result<Submitted, DeskError>> {
+    if cards.len() % 81 != 0 || cards.len() < 81 || 8_100 < cards.len() {
+        return None;
+    }
+    Some(desk.submit(cards))
+}
+
+/// Purges a job.
+fn purge(desk: &mut Desk<MemDisk, Standing>, job: u32) -> Result<bool, DeskError> {
+    desk.purge(job)
+}
+
+/// One turn of the first initiator. None where the layout has none.
+fn turned(desk: &mut Desk<MemDisk, Standing>) -> Option<Result<Reply, DeskError>> {
+    if desk.layout().initiators < 1 {
+        return None;
+    }
+    Some(desk.turn(Turn {
+        initiator: 1,
+        fail: None,
+    }))
+}
+
 #[test]
 fn opened_again(rt: HostRuntime) -> Result<(), Fail> {
     let alloc = rt.alloc();
     let desk = open(alloc, formatted(alloc)?)?;
     assert!(rt; desk.runs().is_empty());
-    let again = open(alloc, desk.close())?;
+    let again = open(alloc, close(desk))?;
     assert!(rt; again.runs().is_empty());
     assert!(rt; again.layout().book == 100_000);
     Ok(())
@@ -103,13 +142,14 @@ fn copy_cards(alloc: Global) -> Result<Vec<u8>, Fail> {
     )
 }
 
+/// What becomes of cards that are submitted.
+fn submit(desk: &mut Desk<MemDisk, Standing>, cards: &[u8]) -> Result<Submitted, Fail> {
+    Ok(submitted(desk, cards).ok_or("the cards have 81 bytes each")??)
+}
+
 /// Submits that copy.
 fn submit_copy(alloc: Global, desk: &mut Desk<MemDisk, Standing>) -> Result<Submitted, Fail> {
-    let cards = copy_cards(alloc)?;
-    if cards.len() % 81 != 0 || cards.len() < 81 || 8_100 < cards.len() {
-        return Err("the cards have 81 bytes each".into());
-    }
-    Ok(desk.submit(&cards)?)
+    submit(desk, &copy_cards(alloc)?)
 }
 
 /// Submits two decks, and purges the first one's job; whether all is answered so.
@@ -117,8 +157,8 @@ fn submit_and_purge(alloc: Global, desk: &mut Desk<MemDisk, Standing>) -> Result
     Ok(
         matches!(submit_copy(alloc, desk)?, Submitted::Job(1))
             && matches!(submit_copy(alloc, desk)?, Submitted::Job(2))
-            && desk.purge(1)?
-            && !desk.purge(1)?,
+            && purge(desk, 1)?
+            && !purge(desk, 1)?,
     )
 }
 
@@ -127,30 +167,23 @@ fn submitted_and_purged(rt: HostRuntime) -> Result<(), Fail> {
     let alloc = rt.alloc();
     let mut desk = open(alloc, formatted(alloc)?)?;
     let answered = submit_and_purge(alloc, &mut desk)?;
-    let again = open(alloc, desk.close())?;
+    let again = open(alloc, close(desk))?;
     let runs = again.runs().len();
-    again.close();
+    close(again);
     assert!(rt; answered && runs == 2);
     Ok(())
 }
 
-/// One turn of the first initiator.
+/// What a turn of the first initiator answers.
 fn turn(desk: &mut Desk<MemDisk, Standing>) -> Result<Reply, Fail> {
-    if desk.layout().initiators < 1 {
-        return Err("a layout has an initiator".into());
-    }
-    let turn = Turn {
-        initiator: 1,
-        fail: None,
-    };
-    Ok(desk.turn(turn)?)
+    Ok(turned(desk).ok_or("a layout has an initiator")??)
 }
 
 /// Whether the one data set that is listed has the record that the job copies, and nothing more.
 fn has_copied(desk: &mut Desk<MemDisk, Standing>) -> Result<bool, Fail> {
     let name = DsName::read(b"OUT.A").ok_or("the name is well formed")?;
-    let listed = desk.set_at(0).ok_or("a data set is listed")?;
-    if listed.name != name || listed.set.length != 1 || desk.set_at(1).is_some() {
+    let listed = listed_at(desk, 0).ok_or("a data set is listed")?;
+    if listed.name != name || listed.set.length != 1 || listed_at(desk, 1).is_some() {
         return Ok(false);
     }
     let records = desk.records(&name)?.ok_or("no run holds it")?;
@@ -200,9 +233,9 @@ fn run_to_its_end(rt: HostRuntime) -> Result<(), Fail> {
     let alloc = rt.alloc();
     let mut desk = open(alloc, formatted(alloc)?)?;
     let ran = run_copy(alloc, &mut desk)?;
-    let mut again = open(alloc, desk.close())?;
+    let mut again = open(alloc, close(desk))?;
     let kept = has_copied(&mut again)?;
-    again.close();
+    close(again);
     assert!(rt; ran && kept);
     Ok(())
 }
@@ -221,29 +254,23 @@ fn begin_long_copy(alloc: Global, desk: &mut Desk<MemDisk, Standing>) -> Result<
             b"//SYSUT2 DD DSN=OUT.A,DISP=(NEW,CATLG),SPACE=(80,1)",
         ],
     )?;
-    if cards.len() % 81 != 0 || cards.len() < 81 || 8_100 < cards.len() {
-        return Err("the cards have 81 bytes each".into());
-    }
-    desk.submit(&cards)?;
+    submit(desk, &cards)?;
     for _ in 0..3 {
         turn(desk)?;
     }
-    Ok(desk.set_at(0).is_some_and(|it| it.set.length == 1))
+    Ok(listed_at(desk, 0).is_some_and(|it| it.set.length == 1))
 }
 
 /// Fills the book with decks, and then by purging their jobs, until fewer than 11 bytes of it are left.
 fn fill_book(alloc: Global, desk: &mut Desk<MemDisk, Standing>) -> Result<(), Fail> {
     let cards = copy_cards(alloc)?;
-    if cards.len() % 81 != 0 || cards.len() < 81 || 8_100 < cards.len() {
-        return Err("the cards have 81 bytes each".into());
-    }
     for _ in 0..1_000 {
-        if desk.submit(&cards).is_err() {
+        if !submitted(desk, &cards).is_some_and(|it| it.is_ok()) {
             break;
         }
     }
     for job in 2..1_000 {
-        match desk.purge(job) {
+        match purge(desk, job) {
             Ok(_) => {}
             Err(DeskError::BookFull { .. }) => return Ok(()),
             Err(error) => return Err(error.into()),
@@ -254,15 +281,8 @@ fn fill_book(alloc: Global, desk: &mut Desk<MemDisk, Standing>) -> Result<(), Fa
 
 /// What the event of a turn of the first initiator needs, and the room of the book, where it has no room.
 fn lack_in_turn(desk: &mut Desk<MemDisk, Standing>) -> Option<(u32, u32)> {
-    if desk.layout().initiators < 1 {
-        return None;
-    }
-    let turn = Turn {
-        initiator: 1,
-        fail: None,
-    };
-    match desk.turn(turn) {
-        Err(DeskError::BookFull { need, room }) => Some((need, room)),
+    match turned(desk) {
+        Some(Err(DeskError::BookFull { need, room })) => Some((need, room)),
         _ => None,
     }
 }
@@ -273,7 +293,7 @@ fn has_no_room_twice(desk: &mut Desk<MemDisk, Standing>) -> bool {
     let second = lack_in_turn(desk);
     first.is_some_and(|(need, room)| need == 25 && room < 11)
         && first == second
-        && desk.set_at(0).is_some_and(|it| it.set.length == 1)
+        && listed_at(desk, 0).is_some_and(|it| it.set.length == 1)
 }
 
 #[test]
@@ -283,7 +303,7 @@ fn no_room_for_the_event_of_a_unit(rt: HostRuntime) -> Result<(), Fail> {
     let begun = begin_long_copy(alloc, &mut desk)?;
     fill_book(alloc, &mut desk)?;
     let full = has_no_room_twice(&mut desk);
-    desk.close();
+    close(desk);
     assert!(rt; begun && full);
     Ok(())
 }
