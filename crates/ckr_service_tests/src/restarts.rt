@@ -272,14 +272,29 @@ fn restarted_programs_leave_what_they_leave_uninterrupted(rt: HostRuntime) -> Re
     Ok(())
 }
 
+/// What is left behind these streams where checkpoints are taken, each a call of its own.
+fn left_at(alloc: Global, deck: &[u8], turns: &[u8], more: &[u8]) -> Result<Vec<u8>, Fail> {
+    text_in_turn(alloc, &[MORE, deck, turns, more, LISTING])
+}
+
+/// What these turns of a step come to that takes checkpoints.
+fn failed_at(alloc: Global, deck: &[u8], failing: &[u8]) -> Result<Vec<u8>, Fail> {
+    text_in_turn(alloc, &[MORE, deck, failing])
+}
+
+/// What its next turn comes to behind a stop.
+fn stopped_at(alloc: Global, deck: &[u8], turns: &[u8]) -> Result<Vec<u8>, Fail> {
+    text_in_turn(alloc, &[MORE, deck, turns, b"$T 1 1\n"])
+}
+
 /// Whether it does so at a checkpoint.
 fn leaves_the_same_at(alloc: Global, deck: &[u8], checkpoint: &Checkpoint) -> Result<bool, Fail> {
     let (turns, failing, told) = *checkpoint;
-    let whole = text_in_turn(alloc, &[MORE, deck, b"$T 1 99\n", LISTING])?;
-    let failed = text_in_turn(alloc, &[MORE, deck, failing])?;
-    let behind_code = text_in_turn(alloc, &[MORE, deck, failing, b"$T 1 99\n", LISTING])?;
-    let stopped = text_in_turn(alloc, &[MORE, deck, turns, b"$T 1 1\n"])?;
-    let behind_stop = text_in_turn(alloc, &[MORE, deck, turns, b"$T 1 99\n", LISTING])?;
+    let whole = left_at(alloc, deck, b"$T 1 99\n", b"")?;
+    let failed = failed_at(alloc, deck, failing)?;
+    let behind_code = left_at(alloc, deck, failing, b"$T 1 99\n")?;
+    let stopped = stopped_at(alloc, deck, turns)?;
+    let behind_stop = left_at(alloc, deck, turns, b"$T 1 99\n")?;
     Ok(
         failed.as_slice().ends_with(told)
             && behind_code.as_slice() == whole.as_slice()
