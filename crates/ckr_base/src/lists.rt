@@ -57,6 +57,17 @@ impl<T: Drop> ItemList<T> {
     }
 }
 
+impl ByteList {
+    /// Puts bytes behind the last one.
+    pub fn extend(&mut self, bytes: &[u8]) -> Result<(), NoMemory>
+        ensures ok { OnOk result (self.new ≡ self.old ++ bytes.now) }
+        ensures err { OnErr result (self.new ≡ self.old) }
+    {
+        self.items.extend_from_slice(bytes)?;
+        Ok(())
+    }
+}
+
 /// A list, seen as its items and its spare places.
 #[derive(Drop)]
 pub struct RoomyList<T> {

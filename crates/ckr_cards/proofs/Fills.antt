@@ -1,24 +1,12 @@
 -- The bytes of a line that is filled with blanks.
-use Rattle.std.proofs.Common.{◌≡◌, ℕ, suc, ◌+◌, ◌-◌, ◌<◌, ◌≤◌, true, false, List, [], ◌∷◌, ◌++◌, length, take, refl, ap, ap₂, sym, ◌∙◌, arith, length-take, length-append, append_assoc, append-nil, if◌then◌else◌}
-use Rattle.std.specs.Prelude.{slice_index_or, slice_set, replicate, nat_lt}
-use Rattle.std.proofs.lemmas.List.{get_or-take, get_or_append_left, get_or-append_right, get_or-replicate, length-replicate, length-take-le, take_all, take-append-le}
+use Rattle.std.proofs.Common.{◌≡◌, ℕ, ◌+◌, ◌-◌, ◌≤◌, Bool, true, false, List, [], ◌∷◌, ◌++◌, length, take, drop, refl, ap, sym, ◌∙◌, arith, length-take, length-append, append_assoc, if◌then◌else◌}
+use Rattle.std.specs.Prelude.{slice_set, replicate, nat_le, nat_lt, min}
+use Rattle.std.proofs.lemmas.List.{drop-replicate, length-replicate, length-take-le, replicate-append-replicate, take_all, take_min, take-append-le, take-replicate}
 use Rattle.std.proofs.lemmas.Bool.Decides.{nat_tests}
-use Rattle.std.proofs.Math.Seq.{take-suc, set-append_seam}
-use native.Mathlib.Numerals.{add-one}
+use Rattle.std.proofs.Math.Seq.{set-append_seam, take-append-add}
+use Rattle.ckr_base.proofs.Numbers.{nat_le-true}
 use Rattle.ckr_cards.specs.Card.{filled, stored_line}
 use Rattle.ckr_cards.specs.Cut.{columns_of}
-
-pub byte_inside : (line : List ℕ) (at : ℕ) → at < 80 → at < length line → slice_index_or line at 0 ≡ slice_index_or (filled line) at 0
-unfolding filled
-byte_inside line at low inside =
-    sym (get_or-take 80 (line ++ replicate 80 32) at 0 low ∙ get_or_append_left line (replicate 80 32) 0 at inside)
-
-pub byte_behind : (line : List ℕ) (at : ℕ) → at < 80 → length line ≤ at → 32 ≡ slice_index_or (filled line) at 0
-unfolding filled
-byte_behind line at low behind =
-    sym (get_or-take 80 (line ++ replicate 80 32) at 0 low
-    ∙ (get_or-append_right line (replicate 80 32) (length line) at 0 refl behind
-    ∙ get_or-replicate 80 (at - length line) 32 0 (omega arith)))
 
 pub length-filled : (line : List ℕ) → length (filled line) ≡ 80
 unfolding filled
@@ -26,55 +14,55 @@ length-filled line =
     let blank : ℕ = 32 in
     rw (length-take 80 (line ++ replicate 80 32), length-append line (replicate 80 32), length-replicate 80 blank) (omega arith)
 
-pub take_next : (line : List ℕ) (at : ℕ) → at < 80 → take at (filled line) ++ slice_index_or (filled line) at 0 ∷ [] ≡ take (at + 1) (filled line)
-take_next line at low = sym (rw add-one (take-suc (filled line) at 0 (rw (length-filled line) low)))
-
 -- ---- a line as it is stored
 
--- one more byte, in front of zeros
-pub set_in_zeros : (front : List ℕ) (n at byte : ℕ) → length front ≡ at → slice_set (front ++ replicate (suc n) 0) at byte ≡ (front ++ byte ∷ []) ++ replicate n 0
-set_in_zeros front n at byte size =
-    ap (λ k. slice_set (front ++ replicate (suc n) 0) k byte) (sym size)
-    ∙ (set-append_seam front 0 (replicate n 0) byte ∙ sym (append_assoc front (byte ∷ []) (replicate n 0)))
-
-pub set_next : (line : List ℕ) (at : ℕ) → at < 80 → slice_set (take at (filled line) ++ replicate (81 - at) 0) at (slice_index_or (filled line) at 0) ≡ take (at + 1) (filled line) ++ replicate (81 - (at + 1)) 0
-set_next line at low =
-    ap (λ n. slice_set (take at (filled line) ++ replicate n 0) at (slice_index_or (filled line) at 0)) (left at low)
-    ∙ (set_in_zeros (take at (filled line)) (81 - (at + 1)) at (slice_index_or (filled line) at 0) (length-take-le at (filled line) (rw (length-filled line) (omega arith)))
-    ∙ ap (λ front. front ++ replicate (81 - (at + 1)) 0) (take_next line at low))
+filled_short : (line : List ℕ) → length line ≤ 80 → filled line ≡ line ++ replicate (80 - length line) 32
+unfolding filled
+filled_short line short =
+    ap (λ n. take n (line ++ replicate 80 32)) (both (length line) short)
+    ∙ (take-append-add line (replicate 80 32) (80 - length line) ∙ ap (λ rest. line ++ rest) (take-replicate (80 - length line) 80 32 (omega arith)))
   where
-    left : (n : ℕ) → n < 80 → 81 - n ≡ suc (81 - (n + 1))
-    left n low = omega arith
+    both : (n : ℕ) → n ≤ 80 → 80 ≡ n + (80 - n)
+    both n low = omega arith
 
--- behind the last byte
-pub at_end : (at : ℕ) (line stored : List ℕ) → stored ≡ take at (filled line) ++ replicate (81 - at) 0 → 80 ≤ at → at ≤ 80 → stored ≡ take 80 (filled line) ++ replicate 1 0
-at_end at line stored same low high = same ∙ ap (λ n. take n (filled line) ++ replicate (81 - n) 0) (both at low high)
+filled_long : (line : List ℕ) → 80 ≤ length line → filled line ≡ take 80 line
+unfolding filled
+filled_long line long = take-append-le 80 line (replicate 80 32) long
+
+-- behind the front of a line stand blanks, of which there is one more than the line is filled with
+blanks : (n : ℕ) → n ≤ 80 → drop n (replicate {A = ℕ} 81 32) ≡ replicate (80 - n) 32 ++ 32 ∷ []
+blanks n low =
+    drop-replicate n 81 32
+    ∙ (ap (λ k. replicate k 32) (one_more n low) ∙ sym (replicate-append-replicate (80 - n) 1 32))
   where
-    both : (n : ℕ) → 80 ≤ n → n ≤ 80 → n ≡ 80
-    both n low high = omega arith
+    one_more : (n : ℕ) → n ≤ 80 → 81 - n ≡ 80 - n + 1
+    one_more n low = omega arith
 
-pub take_filled : (line : List ℕ) → take 80 (filled line) ≡ filled line
-take_filled line = take_all 80 (filled line) (rw (length-filled line) (omega arith))
+no_less : (n : ℕ) → nat_le n 80 ≡ false → 80 ≤ n
+no_less n is = grind (arith, nat_tests)
 
-pub mark_long : (line stored : List ℕ) → stored ≡ take 80 (filled line) ++ replicate 1 0 → 80 < length line → slice_set stored 80 1 ≡ stored_line line
-mark_long line stored same long =
-    ap (λ s. slice_set s 80 1) same
-    ∙ (set_in_zeros (take 80 (filled line)) 0 80 1 (ap length (take_filled line) ∙ length-filled line)
-    ∙ (append-nothing ((take 80 (filled line)) ++ 1 ∷ [])
-    ∙ ap₂ (λ front b. front ++ (if b then 1 else 0) ∷ []) (take_filled line) (sym (is_long (length line) long))))
+filled-is : (line : List ℕ) → take 80 line ++ drop (length (take 80 line)) (replicate {A = ℕ} 81 32) ≡ filled line ++ 32 ∷ []
+filled-is line = by_length (nat_le (length line) 80) refl
   where
-    append-nothing : (xs : List ℕ) → xs ++ [] ≡ xs
-    append-nothing xs = append-nil xs
+    by_length : (short : Bool) → nat_le (length line) 80 ≡ short → take 80 line ++ drop (length (take 80 line)) (replicate {A = ℕ} 81 32) ≡ filled line ++ 32 ∷ []
+    by_length true is =
+        let short = nat_le-true (length line) 80 is in
+        ap (λ front. front ++ drop (length front) (replicate {A = ℕ} 81 32)) (take_all 80 line short)
+        ∙ (ap (λ rest. line ++ rest) (blanks (length line) short)
+        ∙ (sym (append_assoc line (replicate (80 - length line) 32) (32 ∷ [])) ∙ ap (λ front. front ++ 32 ∷ []) (sym (filled_short line short))))
+    by_length false is =
+        let long = no_less (length line) is in
+        ap (λ n. take 80 line ++ drop n (replicate {A = ℕ} 81 32)) (length-take-le 80 line long)
+        ∙ ap (λ front. front ++ 32 ∷ []) (sym (filled_long line long))
 
-    is_long : (n : ℕ) → 80 < n → nat_lt 80 n ≡ true
-    is_long n low = grind (arith, nat_tests)
-
-pub mark_short : (line stored : List ℕ) → stored ≡ take 80 (filled line) ++ replicate 1 0 → length line ≤ 80 → stored ≡ stored_line line
-mark_short line stored same short =
-    same ∙ ap₂ (λ front b. front ++ (if b then 1 else 0) ∷ []) (take_filled line) (sym (is_short (length line) short))
+pub stored_by_front : (line stored : List ℕ) (count mark : ℕ) → count ≡ min (length line) 80 → stored ≡ take count line ++ drop (length (take count line)) (replicate {A = ℕ} 81 32)
+    → slice_set stored 80 mark ≡ filled line ++ mark ∷ []
+stored_by_front line stored count mark few same =
+    ap (λ s. slice_set s 80 mark) (same ∙ ap (λ front. front ++ drop (length front) (replicate {A = ℕ} 81 32)) (ap (λ n. take n line) (few ∙ min-sym (length line) 80) ∙ take_min 80 line) ∙ filled-is line)
+    ∙ (ap (λ n. slice_set (filled line ++ 32 ∷ []) n mark) (sym (length-filled line)) ∙ set-append_seam (filled line) 32 [] mark)
   where
-    is_short : (n : ℕ) → n ≤ 80 → nat_lt 80 n ≡ false
-    is_short n low = grind (arith, nat_tests)
+    min-sym : (a b : ℕ) → min a b ≡ min b a
+    min-sym a b = omega arith
 
 -- the columns that are read of a line
 pub columns_of_stored : (line : List ℕ) → take 71 (stored_line line) ≡ columns_of line

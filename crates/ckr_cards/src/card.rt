@@ -1,6 +1,6 @@
 //! A card.
-ghost use Rattle.std.specs.Prelude.{◌≡◌, ◌<◌, take, slice_index_or};
-ghost use Rattle.ckr_cards.specs.Card.{columns, filled, stored_card, stored_line};
+ghost use Rattle.std.specs.Prelude.{◌≡◌, ◌≤◌, ◌++◌, drop, length, take};
+ghost use Rattle.ckr_cards.specs.Card.{columns, stored_card, stored_line};
 
 /// A card in 81 bytes: its 80 columns, and 1 where its line was longer than 80 bytes.
 pub type StoredCard = [u8; 81];
@@ -38,27 +38,21 @@ impl Card {
     }
 }
 
-/// A byte of a line that is filled with blanks.
-#[tactic(auto, using(crate::proofs::Fills::byte_inside, crate::proofs::Fills::byte_behind))]
-fn byte_at(line: &[u8], at: usize) -> u8
-    requires { at < 80 }
-    ensures { result ≡ slice_index_or (filled line.now) at 0 }
+/// Puts bytes over the front of others, of which there are no fewer.
+fn put_front(stored: &mut [u8], front: &[u8])
+    requires { length front.now ≤ length stored.old }
+    ensures { stored.new ≡ front.now ++ drop (length front.now) stored.old }
 {
-    if at < line.len() { line[at] } else { b' ' }
+    stored[..front.len()].copy_from_slice(front);
 }
 
 /// A line as it is stored: its first 80 bytes, filled with blanks, and 1 where it is longer.
-#[tactic(auto, using(crate::proofs::Fills::set_next))]
 pub fn stored_line(line: &[u8]) -> StoredCard
     ensures { result ≡ stored_line line.now }
 {
-    let mut stored = [0; 81];
-    for at in 0..80usize {
-        stored[at] = byte_at(line, at);
-    }
-    if line.len() > 80 {
-        stored[80] = 1;
-    }
+    let mut stored = [b' '; 81];
+    put_front(&mut stored, &line[..line.len().min(80)]);
+    stored[80] = u8::from(line.len() > 80);
     stored
 }
 

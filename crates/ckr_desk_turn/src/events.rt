@@ -8,7 +8,7 @@ ghost use Rattle.ckr_desk_turn.specs.Spelling.{IsSpelled, IsCode};
 use crate::Cause;
 use arrayvec::ArrayVec;
 use ckr_base::{CheckId, Code, Rec};
-use ckr_events::{Ending, Event, Made};
+use ckr_events::{Ending, Event, MadeSets};
 use ckr_rules::Rule;
 
 /// A run is selected on an initiator.
@@ -224,7 +224,7 @@ pub fn allocation_event(job: u32, dd: u8, cause: Cause) -> Event
 }
 
 /// A step has started, with the data sets that it makes. Steps are numbered from 1.
-pub fn started_event(job: u32, step: u8, made: ArrayVec<Made, 80>) -> Event
+pub fn started_event(job: u32, step: u8, made: MadeSets) -> Event
     requires step { 1 ≤ step }
     requires made { all_made.fits made.items }
     ensures event { result ≡ Event.Started job step made }

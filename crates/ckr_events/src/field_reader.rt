@@ -6,6 +6,7 @@ ghost use Rattle.ckr_fields.specs.Fields.{number_at, times_at};
 ghost use Rattle.ckr_events.specs.Format.{lengths_at, piece_at, pieces_at, made_at, made_list_at, number_if_at, coded_at, allocation_at, ending_at};
 ghost use Rattle.ckr_events.specs.Event.{submitted_at, selected_at, denied_at, started_at, rewritten_at, checkpointed_at, cancelled_at, step_ended_at, restarted_at, held_at, released_at, ended_at, purged_at, fields_at};
 
+use crate::MadeSets;
 use crate::event::{Ending, Event, Made, Piece};
 use arrayvec::ArrayVec;
 use ckr_fields::{Fields, ReadError};
@@ -79,25 +80,24 @@ fn made(fields: &mut Fields) -> Result<Made, ReadError>
 }
 
 /// So many data sets that were made.
-fn some_made(fields: &mut Fields, count: u8) -> Result<ArrayVec<Made, 80>, ReadError>
-    requires { count ≤ 80 }
+fn some_made(alloc: Global, fields: &mut Fields, count: u8) -> Result<MadeSets, ReadError>
     ensures { Gives (λ v. v.items) (times_at made_at count fields.old) result fields.new }
 {
-    let mut list = ArrayVec::new();
+    let mut list = MadeSets::new(alloc);
     for _ in 0..count {
         let item = made(fields)?;
-        list.push(item);
+        list.push(item)?;
     }
     Ok(list)
 }
 
 /// The data sets that a step made, behind their count.
 #[tactic(auto, unfolding(crate::specs::Format::made_list_at))]
-fn made_list(fields: &mut Fields) -> Result<ArrayVec<Made, 80>, ReadError>
+fn made_list(alloc: Global, fields: &mut Fields) -> Result<MadeSets, ReadError>
     ensures { Gives (λ x. x) (made_list_at fields.old) result fields.new }
 {
     let count = fields.byte_between(0, 80)?;
-    let list = some_made(fields, count)?;
+    let list = some_made(alloc, fields, count)?;
     Ok(list)
 }
 
@@ -205,12 +205,12 @@ fn denied(fields: &mut Fields) -> Result<Event, ReadError>
 
 /// The fields of `Started`.
 #[tactic(auto, unfolding(crate::specs::Event::started_at))]
-fn started(fields: &mut Fields) -> Result<Event, ReadError>
+fn started(alloc: Global, fields: &mut Fields) -> Result<Event, ReadError>
     ensures { Gives (λ x. x) (started_at fields.old) result fields.new }
 {
     let job = fields.four_bytes()?;
     let step = fields.byte_between(1, 255)?;
-    let made = made_list(fields)?;
+    let made = made_list(alloc, fields)?;
     Ok(Event::Started { job, step, made })
 }
 
@@ -362,7 +362,7 @@ pub(crate) fn fields_of(
         1 => submitted(alloc, fields),
         2 => selected(fields),
         3 => denied(fields),
-        4 => started(fields),
+        4 => started(alloc, fields),
         5 => rewritten(fields),
         6 => checkpointed(fields),
         7 => cancelled(fields),

@@ -4,6 +4,7 @@ ghost use Rattle.std.specs.Int.{w32, to_be_bytes};
 ghost use Rattle.ckr_fields.specs.Fields.{optional_spell, check_id, ds_name};
 ghost use Rattle.ckr_events.specs.Format.{length_list, piece, piece_list, made, all_made, ending_spell, coded, allocation, selected, denied, started, rewritten, checkpointed, step_ended, restarted, held, ended};
 
+use crate::MadeSets;
 use crate::event::{Ending, Made, Piece};
 use arrayvec::ArrayVec;
 use ckr_base::{CheckId, Code, DsName, Rec};
@@ -63,7 +64,7 @@ fn put_made(out: &mut Vec<u8>, item: &Made)
 }
 
 /// The data sets that a step made, behind their count.
-fn put_all_made(out: &mut Vec<u8>, listing: &ArrayVec<Made, 80>)
+fn put_all_made(out: &mut Vec<u8>, listing: &MadeSets)
     requires { vec_len out.old + 3441 ≤ vec_capacity out.old }
     ensures items { out.new.items ≡ out.old.items ++ all_made.spell listing.now.items }
     ensures len { vec_len out.new ≤ vec_len out.old + 3441 }
@@ -205,7 +206,7 @@ pub(crate) fn put_denied(out: &mut Vec<u8>, job: u32, rule: u8, name: &Option<Ds
 }
 
 /// The event `Started`.
-pub(crate) fn put_started(out: &mut Vec<u8>, job: u32, step: u8, listing: &ArrayVec<Made, 80>)
+pub(crate) fn put_started(out: &mut Vec<u8>, job: u32, step: u8, listing: &MadeSets)
     requires { vec_len out.old + 4096 ≤ vec_capacity out.old }
     ensures items { out.new.items ≡ out.old.items ++ (4 ∷ started.spell (job, (step, listing.now))) }
     ensures capacity { vec_capacity out.old ≤ vec_capacity out.new }

@@ -255,8 +255,6 @@ fn byte_list(alloc: Global, bytes: &[u8]) -> Result<ByteList, NoMemory>
     ensures { IfOk result (λ list. list ≡ bytes.now) }
 {
     let mut list = ByteList::new(alloc);
-    for byte in bytes {
-        list.push(*byte)?;
-    }
+    list.extend(bytes)?;
     Ok(list)
 }

@@ -1,6 +1,7 @@
 //! What a deck says, as values: the job, its steps and DDs, PARM, the programs.
 #![tactic(auto)]
 
+mod card_image;
 mod deck;
 mod exact;
 mod lists;
@@ -9,6 +10,7 @@ mod programs;
 mod refusal;
 mod text;
 
+pub use card_image::CardImage;
 pub use deck::{
     After, Cond, CondOp, Dd, Disp, Job, Kind, Origin, Parm, Rd, Restart, Role, Status, Step,
 };

@@ -1,10 +1,10 @@
 //! Lists of the parts of a deck.
 
-use crate::{Cond, Dd, Step};
-use ckr_base::{ItemList, Rec};
+use crate::{CardImage, Cond, Dd, Step};
+use ckr_base::ItemList;
 
 /// The records of a DD in the deck.
-pub type Cards = ItemList<Rec>;
+pub type Cards = ItemList<CardImage>;
 
 /// The DDs of a step, at most 16.
 pub type Dds = ItemList<Dd>;

@@ -8,21 +8,14 @@ ghost use Rattle.ckr_jcl_decks.specs.Deck.{bytes_of, named_origin, origin_of, di
 
 use crate::deck_faults::{parm_of, step_place};
 use arrayvec::ArrayVec;
-use ckr_base::{CheckId, NoMemory, Rec, Volser};
+use ckr_base::{CheckId, NoMemory, Volser};
 use ckr_cards::Card;
 use ckr_jcl::{
-    After, Cards, Conds, Dd, Dds, Disp, Job, Kind, Origin, Restart, Status, Step, Steps, is_spelled,
+    After, CardImage, Cards, Conds, Dd, Dds, Disp, Job, Kind, Origin, Restart, Status, Step, Steps, is_spelled,
 };
 use ckr_jcl_faults::{DdText, JobText, StepText, is_chkdd};
 use ckr_jcl_operands::{DsnText, RestartText, VolText, disp_of};
 use std::alloc::Global;
-
-/// The record that a card is.
-fn record_of(card: &Card) -> Rec
-    ensures { result ≡ bytes_of card.now }
-{
-    Rec::of(card.bytes.as_slice())
-}
 
 /// The records of a DD in the deck.
 fn records_of(alloc: Global, cards: &[Card]) -> Result<Cards, NoMemory>
@@ -30,7 +23,7 @@ fn records_of(alloc: Global, cards: &[Card]) -> Result<Cards, NoMemory>
 {
     let mut records = Cards::new(alloc);
     for card in cards {
-        records.push(record_of(card))?;
+        records.push(CardImage::of(&card.bytes))?;
     }
     Ok(records)
 }

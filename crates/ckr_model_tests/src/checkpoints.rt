@@ -131,24 +131,22 @@ fn two_lengths(first: u32, second: u32) -> ArrayVec<u32, 16> {
 }
 
 /// What a step makes: its output, and a data set for its entries where one is given.
-fn made_by(output: u32, entries: Option<u32>) -> ArrayVec<Made, 80> {
-    let mut items = ArrayVec::new();
-    items.push(made(2, output, 10));
+fn made_by(output: u32, entries: Option<u32>) -> Result<MadeSets, NoMemory> {
+    let mut items = MadeSets::new(Global);
+    items.push(made(2, output, 10))?;
     if let Some(start) = entries {
-        items.push(made(3, start, 4));
+        items.push(made(3, start, 4))?;
     }
-    items
+    Ok(items)
 }
 
 /// What a step makes, by its DDs: the number of the DD, the first byte on the volume, and the records.
-fn all_made(pieces: &[(u8, u32, u32)]) -> ArrayVec<Made, 80> {
-    let mut items = ArrayVec::new();
+fn all_made(pieces: &[(u8, u32, u32)]) -> Result<MadeSets, NoMemory> {
+    let mut items = MadeSets::new(Global);
     for (dd, start, records) in pieces {
-        if !items.is_full() {
-            items.push(made(*dd, *start, *records));
-        }
+        items.push(made(*dd, *start, *records))?;
     }
-    items
+    Ok(items)
 }
 
 /// The lengths of a step's outputs.
@@ -172,7 +170,7 @@ fn start_making(
     let event = Event::Started {
         job,
         step,
-        made: all_made(pieces),
+        made: all_made(pieces)?,
     };
     tell(tables, layout, &event)
 }
@@ -222,7 +220,7 @@ fn start(
     let event = Event::Started {
         job,
         step: 1,
-        made: made_by(output, entries),
+        made: made_by(output, entries)?,
     };
     tell(tables, layout, &event)
 }

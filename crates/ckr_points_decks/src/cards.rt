@@ -15,19 +15,10 @@ const COLUMNS: usize = 80;
 /// What stands behind the columns of a card whose line was not longer.
 const SHORT: u8 = 0;
 
-fn put_bytes(kept: &mut ByteList, bytes: &[u8]) -> Result<(), NoMemory>
-    ensures { OnOk result (kept.new ≡ kept.old ++ bytes.now) }
-{
-    for byte in bytes {
-        kept.push(*byte)?;
-    }
-    Ok(())
-}
-
 fn put_columns(kept: &mut ByteList, card: &[u8; 81]) -> Result<(), NoMemory>
     ensures { OnOk result (kept.new ≡ kept.old ++ columns_of card.now) }
 {
-    put_bytes(kept, &card[..COLUMNS])
+    kept.extend(&card[..COLUMNS])
 }
 
 fn put_all_columns(kept: &mut ByteList, cards: &[[u8; 81]]) -> Result<(), NoMemory>
@@ -66,7 +57,7 @@ fn put_card(stored: &mut ByteList, columns: &[u8; 80]) -> Result<(), NoMemory>
     ensures card { OnOk result (stored.new ≡ stored.old ++ with_short_mark columns.now) }
     ensures long { OnOk result (length stored.new ≡ length stored.old + 81) }
 {
-    put_bytes(stored, columns)?;
+    stored.extend(columns)?;
     stored.push(SHORT)
 }
 

@@ -18,7 +18,7 @@ use crate::{OwnStep, RunTable, Tables, step_at};
 use arrayvec::ArrayVec;
 use ckr_base::NoMemory;
 use ckr_entry::Passed;
-use ckr_events::{Made, Piece};
+use ckr_events::{Made, MadeSets, Piece};
 use ckr_library::Library;
 use ckr_points_library::{MadeList, Refusal, allocate_step};
 use ckr_volumes::Layout;
@@ -35,7 +35,7 @@ impl Tables {
         layout: &Layout,
         job: u32,
         number: u8,
-    ) -> Result<Result<ArrayVec<Made, 80>, Refusal>, NoMemory>
+    ) -> Result<Result<MadeSets, Refusal>, NoMemory>
         requires few { length layout.now.volumes.items ≤ 32 }
         requires stand { EachEntry (λ (table : TableSet). StandsIn layout.now table.set) self.old.desk.sets }
         requires dds { MayAllocate job number self.old.desk }
@@ -53,7 +53,7 @@ impl Tables {
                 &mut self.library,
                 alloc,
             ),
-            None => Ok(Ok(ArrayVec::new())),
+            None => Ok(Ok(MadeSets::new(alloc))),
         }
     }
 }
@@ -66,7 +66,7 @@ fn allocate_run(
     table: &RunTable,
     library: &mut Library,
     alloc: Global,
-) -> Result<Result<ArrayVec<Made, 80>, Refusal>, NoMemory>
+) -> Result<Result<MadeSets, Refusal>, NoMemory>
     requires fits { IsFitting (effective run table.now.job) }
     requires distinct { HasDistinctNames (effective run table.now.job) }
     requires few { length layout.now.volumes.items ≤ 32 }
@@ -86,7 +86,7 @@ fn allocate_run(
             library,
             alloc,
         ),
-        None => Ok(Ok(ArrayVec::new())),
+        None => Ok(Ok(MadeSets::new(alloc))),
     }
 }
 
@@ -99,7 +99,7 @@ fn allocate_own(
     passed: &[Passed],
     library: &mut Library,
     alloc: Global,
-) -> Result<Result<ArrayVec<Made, 80>, Refusal>, NoMemory>
+) -> Result<Result<MadeSets, Refusal>, NoMemory>
     requires root { root ≤ 9999999 }
     requires owner { own.now.owner ≤ 9999999 }
     requires few_dds { length own.now.step.now.dds ≤ 16 }
@@ -117,7 +117,7 @@ fn allocate_own(
     match allocate_step(
         layout, own.step, root, own.owner, number, library, passed, &mut items,
     ) {
-        Ok(()) => Ok(Ok(copies_of(items.as_slice()))),
+        Ok(()) => Ok(Ok(copies_of(alloc, items.as_slice())?)),
         Err(refusal) => Ok(Err(refusal)),
     }
 }
@@ -162,15 +162,15 @@ fn copy_of(made: &Made) -> Made
 }
 
 /// The same places of data sets, as an event has them.
-fn copies_of(items: &[Made]) -> ArrayVec<Made, 80>
+fn copies_of(alloc: Global, items: &[Made]) -> Result<MadeSets, NoMemory>
     requires few { length items.now ≤ 80 }
     requires numbers { AllByRecursion IsFromOne items.now }
-    ensures items { result.items ≡ items.now }
-    ensures fits { all_made.fits result.items }
+    ensures items { IfOk result (λ copies. copies.items ≡ items.now) }
+    ensures fits { IfOk result (λ copies. all_made.fits copies.items) }
 {
-    let mut copies = ArrayVec::new();
+    let mut copies = MadeSets::new(alloc);
     for made in items {
-        copies.push(copy_of(made));
+        copies.push(copy_of(made))?;
     }
-    copies
+    Ok(copies)
 }

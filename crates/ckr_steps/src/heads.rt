@@ -20,7 +20,7 @@ fn card_at(cards: &Cards, place: u32) -> Option<Rec>
     ensures { result ≡ slice_get cards.now place }
 {
     match cards.as_slice().get(place as usize) {
-        Some(card) => Some(card.copied()),
+        Some(card) => Some(card.record()),
         None => None,
     }
 }

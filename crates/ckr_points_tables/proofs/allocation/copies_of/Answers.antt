@@ -16,12 +16,12 @@ loop-made-preserved c =
     let index = c.loop-made.made-index in
     record {
       items =
-          c.push.ensures.items
+          c.in_ok-push.ensures.ok
           ∙ ap (λ xs. xs ++ c.copy_of.result ∷ []) c.loop-made.invariant.items
           ∙ ap (λ one. take index items ++ one ∷ []) (c.copy_of.ensures.same ∙ c.made-item.is)
           ∙ sym (take_more items index c.made-item.result c.loop-made-test.true);
       fits =
-          subst (each_fits made.fits) (sym c.push.ensures.items)
+          subst (each_fits made.fits) (sym c.in_ok-push.ensures.ok)
           (fits-more made.fits c.loop-made.copies.items c.copy_of.result c.loop-made.invariant.fits c.copy_of.ensures.fits);
     }
 
