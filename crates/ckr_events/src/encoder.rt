@@ -1,12 +1,12 @@
 //! The bytes of an event.
-ghost use Rattle.std.specs.Prelude.{◌≡◌, ◌≤◌, ◌+◌, ◌++◌, ◌∷◌, ◌/◌, ◌^◌, ◌<◌, IfOk, OnOk, length, vec_len, vec_capacity};
+ghost use Rattle.std.specs.Prelude.{◌≡◌, ◌≤◌, ◌+◌, ◌++◌, ◌∷◌, ◌/◌, ◌^◌, ◌<◌, IfOk, length, vec_len, vec_capacity};
 ghost use Rattle.ckr_events.specs.Format.{submitted};
 ghost use Rattle.ckr_events.specs.Event.{spelling, IsSmall, IsCounted};
 
 use crate::event::Event;
 use crate::field_writer;
-use ckr_base::{ByteList, NoMemory};
-use ckr_fields::{put_byte, put_bytes, put_four_bytes};
+use ckr_base::NoMemory;
+use ckr_fields::{put_byte, put_four_bytes};
 use std::alloc::Global;
 
 /// Room for an event of each kind but `Submitted`, of which the longest has 3,447 bytes.
@@ -19,14 +19,32 @@ pub fn encode(alloc: Global, event: &Event) -> Result<Vec<u8>, NoMemory>
     ensures { IfOk result (λ bytes. bytes.items ≡ spelling event.now) }
 {
     let mut out = Vec::new(alloc);
+    out.reserve(SMALL)?;
+    let rest = encode_front(event, &mut out);
+    out.extend_from_slice(rest)?;
+    Ok(out)
+}
+
+/// Puts the first bytes of the one spelling of an event behind what stands in the vector, and gives those behind them: the
+/// cards of a deck, which are not copied, and none of another event. A `Submitted` event has fewer than 4,294,967,296 cards.
+/// The vector has room for 4,096 bytes more, and no memory is taken: its capacity doesn't fall.
+pub fn encode_front<'a>(event: &'a Event, buf: &mut Vec<u8>) -> &'a [u8]
+    requires counted { IsCounted event.now }
+    requires room { vec_len buf.old + 4096 ≤ vec_capacity buf.old }
+    ensures items { buf.new.items ++ result.now ≡ buf.old.items ++ spelling event.now }
+    ensures capacity { vec_capacity buf.old ≤ vec_capacity buf.new }
+{
     match event {
-        Event::Submitted { job, cards } => put_submitted(&mut out, *job, cards)?,
+        Event::Submitted { job, cards } => {
+            let cards = cards.as_slice();
+            put_head(buf, *job, cards);
+            cards
+        }
         other => {
-            out.reserve(SMALL)?;
-            encode_small(other, &mut out);
+            encode_small(other, buf);
+            &[]
         }
     }
-    Ok(out)
 }
 
 /// Puts the one spelling of an event, which isn't `Submitted`, behind what stands in the vector. The vector has room
@@ -97,16 +115,14 @@ pub fn encode_small(event: &Event, buf: &mut Vec<u8>)
     }
 }
 
-/// The event `Submitted`, of which each card has 80 bytes.
-fn put_submitted(out: &mut Vec<u8>, job: u32, cards: &ByteList) -> Result<(), NoMemory>
-    requires { length cards.now / 80 < 2 ^ 32 }
-    ensures { OnOk result (out.new.items ≡ out.old.items ++ (1 ∷ submitted.spell (job, cards.now))) }
+/// What stands before the cards of the event `Submitted`, of which each has 80 bytes.
+fn put_head(out: &mut Vec<u8>, job: u32, cards: &[u8])
+    requires few { length cards.now / 80 < 2 ^ 32 }
+    requires room { vec_len out.old + 9 ≤ vec_capacity out.old }
+    ensures items { out.new.items ++ cards.now ≡ out.old.items ++ (1 ∷ submitted.spell (job, cards.now)) }
+    ensures capacity { vec_capacity out.old ≤ vec_capacity out.new }
 {
-    let bytes = cards.as_slice();
-    out.reserve(bytes.len() + 9)?;
     put_byte(out, 1);
     put_four_bytes(out, job);
-    put_four_bytes(out, (bytes.len() / 80) as u32);
-    put_bytes(out, bytes);
-    Ok(())
+    put_four_bytes(out, (cards.len() / 80) as u32);
 }

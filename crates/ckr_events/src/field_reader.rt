@@ -81,6 +81,7 @@ fn made(fields: &mut Fields) -> Result<Made, ReadError>
 
 /// So many data sets that were made.
 fn some_made(alloc: Global, fields: &mut Fields, count: u8) -> Result<MadeSets, ReadError>
+    requires { count ≤ 80 }
     ensures { Gives (λ v. v.items) (times_at made_at count fields.old) result fields.new }
 {
     let mut list = MadeSets::new(alloc);

@@ -11,7 +11,8 @@ use arrayvec::ArrayVec;
 use ckr_base::{CheckId, NoMemory, Volser};
 use ckr_cards::Card;
 use ckr_jcl::{
-    After, CardImage, Cards, Conds, Dd, Dds, Disp, Job, Kind, Origin, Restart, Status, Step, Steps, is_spelled,
+    After, CardImage, Cards, Conds, Dd, Dds, Disp, Job, Kind, Origin, Restart, Status, Step, Steps,
+    is_spelled,
 };
 use ckr_jcl_faults::{DdText, JobText, StepText, is_chkdd};
 use ckr_jcl_operands::{DsnText, RestartText, VolText, disp_of};

@@ -5,7 +5,7 @@ ghost use Rattle.ckr_points_tables.specs.Invariant.{MayContinue, MayCount, MaySu
 use crate::decks::job_of;
 use arrayvec::ArrayVec;
 use ckr_base::{ByteList, CheckId, Code, DsName, NoMemory, Volser};
-use ckr_events::{Ending, Event, Made, Piece};
+use ckr_events::{Ending, Event, Made, MadeSets, Piece};
 use ckr_jcl::Job;
 use ckr_points_follows::follows;
 use ckr_points_tables::{Tables, is_submittable};
@@ -144,7 +144,9 @@ fn made_by(output: u32, entries: Option<u32>) -> Result<MadeSets, NoMemory> {
 fn all_made(pieces: &[(u8, u32, u32)]) -> Result<MadeSets, NoMemory> {
     let mut items = MadeSets::new(Global);
     for (dd, start, records) in pieces {
-        items.push(made(*dd, *start, *records))?;
+        if !items.is_full() {
+            items.push(made(*dd, *start, *records))?;
+        }
     }
     Ok(items)
 }

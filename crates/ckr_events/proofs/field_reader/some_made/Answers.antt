@@ -1,3 +1,4 @@
+use Rattle.std.proofs.Common.{arith}
 use Rattle.std.proofs.lemmas.Result.{err_from_is_err_and}
 use Rattle.arrayvec.specs.ArrayVec.{ArrayVec}
 use Rattle.ckr_fields.specs.Fields.{times_at}
@@ -14,6 +15,7 @@ returns-in_err-item c =
 pub loop-preserved : goal.loop-preserved
 loop-preserved c = record {
   so_far = rw c.in_ok-push.ensures.ok (goes_on made_at c.loop.list.items c.args.count c.loop.counter c.loop.fields (times_at made_at c.args.count c.args.fields.now) c.in_ok-item.item c.made.new.fields c.loop-test.true c.in_ok-item.ensures c.loop.invariant.so_far);
+  many = omega (arith, c.in_ok-push.ensures.len, c.loop.invariant.many);
 }
 
 pub returns : goal.returns
