@@ -6,13 +6,13 @@ use std::alloc::Global;
 use std::marker::Model;
 
 /// A record in a deck, which is the 80 columns of its card, seen as its bytes. A list of such records is packed: each takes 80 bytes.
-#[derive(Clone, Copy, PartialEq, Eq)]
+#[derive(PartialEq, Eq, Drop)]
 pub struct CardImage {
     columns: [u8; 80],
 }
 
 impl Model for CardImage {
-    ghost use Rattle.std.specs.Prelude.{ℕ, List};
+    ghost use Rattle.std.specs.Prelude.{◌≡◌, ℕ, List, length};
     ghost use Rattle.std.specs.Coded.{coded_ℕ, coded_list};
 
     ghost Value = { List ℕ };
@@ -20,6 +20,10 @@ impl Model for CardImage {
     ghost coded = { coded_list coded_ℕ };
 
     ghost view = { λ a. a.columns };
+
+    ghost invariant = { λ a. length a.columns ≡ 80 };
+
+    ghost inverse = { λ bytes. record { columns = bytes } };
 }
 
 impl CardImage {
@@ -40,7 +44,7 @@ impl CardImage {
 
 impl Duplicate for CardImage {
     fn duplicate(&self, _alloc: Global) -> Result<CardImage, NoMemory> {
-        Ok(*self)
+        Ok(CardImage::of(&self.columns))
     }
 }
 
