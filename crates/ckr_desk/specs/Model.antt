@@ -1,4 +1,5 @@
 -- The definitions below this crate that its clauses cite, handed on to the crates above: the model of the events, and what a desk answers.
+pub use Rattle.ckr_desk_memory.specs.Lines
 pub use Rattle.ckr_desk_memory.specs.Plans
 pub use Rattle.ckr_desk_refines.specs.Listing
 pub use Rattle.ckr_desk_refines.specs.declared.data_sets.Listed

@@ -4,6 +4,7 @@ ghost use Rattle.std.specs.Option.{option_map};
 ghost use Rattle.std.specs.Rc.{rc_value};
 ghost use Rattle.ckr_events.specs.Event.{IsCounted, spelling};
 ghost use Rattle.ckr_desk_memory.specs.Invariant.{IsAnyAccepted};
+ghost use Rattle.ckr_desk_memory.specs.Lines.{AreNumberedLines};
 ghost use Rattle.ckr_desk_memory.specs.Rewrite.{HasRecordPlace};
 ghost use Rattle.ckr_desk_memory.specs.OwnSets.{CommitsItsOwn};
 ghost use Rattle.ckr_desk_memory.specs.OwnSteps.{KnowsItsPoint, LeavesLeft};
@@ -74,7 +75,8 @@ impl<D: Disk, O: Operator> Desk<D, O> {
 
     /// The lines of the runs, in the order of their numbers.
     pub fn runs(&self) -> &[Run]
-        ensures { result.now ≡ map line_of (tables_in_memory self.now).runs }
+        ensures lines { result.now ≡ map line_of (tables_in_memory self.now).runs }
+        ensures numbered { AreNumberedLines result.now }
     {
         self.jobs.runs()
     }

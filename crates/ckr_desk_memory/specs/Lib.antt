@@ -2,6 +2,7 @@ pub mod EventChanges
 pub mod Extents
 pub mod RunningSteps
 pub mod Invariant
+pub mod Lines
 pub mod Parts
 pub mod Plans
 pub mod Preparation

@@ -3,6 +3,7 @@ ghost use Rattle.std.specs.Prelude.{◌≡◌, ◌≤◌, [], length, map};
 ghost use Rattle.ckr_points.specs.Rows.{no_tables, holding_of};
 ghost use Rattle.ckr_points_tables.specs.View.{line_of, seen_by};
 ghost use Rattle.ckr_desk_memory.specs.OwnSteps.{AreLeft, HoldTheirOwn};
+ghost use Rattle.ckr_desk_memory.specs.Lines.{AreNumberedLines};
 ghost use Rattle.ckr_desk_memory.specs.Parts.{step_seen};
 
 use ckr_base::Code;
@@ -100,6 +101,7 @@ impl Jobs {
     /// The lines of the runs, in the order of their numbers.
     pub fn runs(&self) -> &[Run]
         ensures lines { result.now ≡ map line_of self.now.tables.desk.runs }
+        ensures numbered { AreNumberedLines result.now }
         ensures few { length self.now.tables.desk.runs ≤ 9999999 }
     {
         self.tables.runs()

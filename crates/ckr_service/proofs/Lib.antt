@@ -9,4 +9,5 @@ mod MadeDisks
 mod MadeEnds
 mod Records
 mod MadeRuns
+mod JobNames
 mod MadeWords

@@ -2,6 +2,7 @@
 ghost use Rattle.std.specs.Prelude.{◌≡◌, ◌<◌, ◌≤◌, ◌%◌, ◌*◌, ◌||◌, length, [], ◌∷◌, ◌++◌, OnOk, IfErr, IfOk, false, true, unwrap_or};
 ghost use Rattle.std.specs.Option.{option_copied};
 ghost use Rattle.ckr_outside.specs.Faults.{Rose};
+ghost use Rattle.ckr_desk.specs.Model.Lines.{AreNumberedLines};
 ghost use Rattle.ckr_desk.specs.Model.Listing.{listed, records_of};
 ghost use Rattle.ckr_desk.specs.Model.OpenImages.{event_records};
 ghost use Rattle.ckr_desk.specs.CallOutcomes.{HasComeTo, KeepsDesk};
@@ -42,18 +43,17 @@ pub struct Clerk<D: Disk, O: Operator> {
     pub tally: Tally,
 }
 
-/// The name of the job of a number, where there is one.
+/// The name of the job of a number, where there is one, by its place among the lines.
 fn name_in(number: u32, runs: &[Run]) -> Option<&Name8>
+    requires { AreNumberedLines runs.now }
     ensures { unwrap_or (option_copied result) [] ≡ name_in number runs.now }
 {
-    match runs {
-        [] => None,
-        [run, rest @ ..] => {
-            if run.number == number {
-                return Some(&run.name);
-            }
-            name_in(number, rest)
-        }
+    if number == 0 {
+        return None;
+    }
+    match runs.get(number as usize - 1) {
+        Some(run) => Some(&run.name),
+        None => None,
     }
 }
 
