@@ -1,4 +1,6 @@
 pub mod Runs
+pub mod RunRows
+pub mod EndedRuns
 pub mod MarkOrder
 pub mod OwnNames
 pub mod RunChanges

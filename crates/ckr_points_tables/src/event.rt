@@ -9,6 +9,7 @@ ghost use Rattle.ckr_points_tables.specs.Invariant.{is_run_change, is_submittabl
 ghost use Rattle.ckr_points.specs.Restart.{after_event};
 ghost use Rattle.ckr_points_tables.specs.View.{facts_of, fresh_facts};
 
+use crate::ended_runs::count_ended;
 use crate::made_names::earlier_for;
 use crate::run_change::change_run;
 use crate::{EffectiveJob, RunTable, StepPoints, Tables};
@@ -105,6 +106,7 @@ impl Tables {
         let after = self.lines[place].initiator;
         put_at(&mut self.index, before, 0);
         put_at(&mut self.index, after, number);
+        self.ended = count_ended(self.lines.as_slice(), self.ended.min(place));
     }
 
     /// A deck is submitted. There is room for its run.

@@ -41,6 +41,7 @@ impl Tables {
         let after = self.lines[place].initiator;
         put_at(&mut self.index, before, 0);
         put_at(&mut self.index, after, job);
+        self.ended = self.ended.min(place);
     }
 }
 

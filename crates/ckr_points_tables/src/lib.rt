@@ -5,6 +5,7 @@ mod allocation;
 mod checkpoint;
 mod continuation;
 mod effective_job;
+mod ended_runs;
 mod entry_now;
 mod event;
 mod hold;

@@ -18,6 +18,7 @@ impl Tables {
     {
         let place = job as usize - 1;
         release_run(&mut self.lines[place]);
+        self.ended = self.ended.min(place);
     }
 }
 

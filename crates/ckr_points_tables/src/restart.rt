@@ -49,6 +49,7 @@ impl Tables {
         let after = self.lines[place].initiator;
         put_at(&mut self.index, before, 0);
         put_at(&mut self.index, after, job);
+        self.ended = self.ended.min(place);
     }
 
     /// How many records the step had taken at the first entry of an identifier that a data set keeps. None exactly where it keeps none.

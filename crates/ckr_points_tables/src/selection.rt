@@ -374,5 +374,6 @@ impl Tables {
         go_on_as(next, &mut self.tables[place]);
         put_at(&mut self.index, before, 0);
         put_at(&mut self.index, Some(initiator), number);
+        self.ended = self.ended.min(place);
     }
 }

@@ -1,11 +1,15 @@
 //! The tables of the desk.
-ghost use Rattle.std.specs.Prelude.{◌≡◌, ℕ, ◌≤◌, ◌<◌, [], Some, IsTrue, OnOk, IsOk, length, map, replicate, slice_get};
+ghost use Rattle.std.specs.Prelude.{◌≡◌, ℕ, ◌≤◌, ◌<◌, [], Bool, Some, IsTrue, OnOk, IsOk, length, map, replicate, slice_get, true};
+ghost use Rattle.std.specs.List.{list_all};
 ghost use Rattle.std.specs.Option.{option_copied, option_map};
 ghost use Rattle.ckr_library.specs.NameMaps.{EachEntry};
 ghost use Rattle.ckr_points.specs.Rows.{no_tables, run_of, holding_of, RunRow, TableSet};
+ghost use Rattle.ckr_points.specs.declared.run.Run.{Run as LineOfRun};
+ghost use Rattle.ckr_points_tables.specs.EndedRuns.{has_ended};
 ghost use Rattle.ckr_points_tables.specs.RunRows.{IsRunRow};
 ghost use Rattle.ckr_points_tables.specs.View.{facts_in, facts_of, line_of, place_of, run_on, seen_by};
 
+use crate::ended_runs::lines_behind;
 use crate::marks_in_order::MarksInOrder;
 use crate::{RunTable, WrittenEntries};
 use ckr_base::NoMemory;
@@ -33,6 +37,8 @@ pub struct Tables {
     pub(crate) library: Library,
     pub(crate) lines: Vec<Run>,
     pub(crate) tables: Vec<RunTable>,
+    /// So many runs, from the first one on, have ended.
+    pub(crate) ended: usize,
     /// By initiator, the number of the run that is on it, or 0.
     pub(crate) index: [u32; 256],
     pub(crate) spare: Spare,
@@ -45,11 +51,11 @@ impl Model for Tables {
 
     ghost Value = { RoomyTables };
 
-    ghost use Rattle.ckr_points_tables.specs.Parts.{tables_seen, IsKept};
+    ghost use Rattle.ckr_points_tables.specs.Parts.{tables_seen, IsSound};
 
     ghost view = { tables_seen };
 
-    ghost invariant = { IsKept };
+    ghost invariant = { IsSound };
 }
 
 impl Tables {
@@ -61,6 +67,7 @@ impl Tables {
             library: Library::new(alloc),
             lines: Vec::new(alloc),
             tables: Vec::new(alloc),
+            ended: 0,
             index: no_runs_on(),
             spare: Spare {
                 alloc,
@@ -88,6 +95,15 @@ impl Tables {
         ensures rows { (job : ℕ) (row : RunRow) → run_of self.now.desk job ≡ Some row → IsRunRow job row }
     {
         self.lines.as_slice()
+    }
+
+    /// The lines of the runs from the first one on that has not ended. A test that each ended run passes is passed by all of these
+    /// exactly where all runs pass it, so that no such test looks at the runs that ended long ago.
+    pub fn unended(&self) -> &[Run]
+        ensures tests { (test : LineOfRun → Bool) → ((line : LineOfRun) → has_ended line.state ≡ true → test line ≡ true) → list_all test result.now ≡ list_all test (map line_of self.now.desk.runs) }
+        ensures rows { (job : ℕ) (row : RunRow) → run_of self.now.desk job ≡ Some row → IsRunRow job row }
+    {
+        lines_behind(self.lines.as_slice(), self.ended)
     }
 
     /// What the tables keep of a run besides its line. None exactly where there is no such run.

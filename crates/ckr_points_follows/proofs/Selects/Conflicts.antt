@@ -1,7 +1,8 @@
 -- The uses of two decks hold against each other where a use of a DD of one keeps out that of a DD of the other.
-use Rattle.std.proofs.Common.{◌≡◌, ℕ, ◌&&◌, ◌||◌, Bool, true, false, not, map, flat_map, slice_get, suc, ap, sym, ◌∙◌, Some}
+use Rattle.std.proofs.Common.{◌≡◌, ℕ, ◌&&◌, ◌||◌, Bool, true, false, not, map, flat_map, slice_get, suc, refl, ap, sym, ◌∙◌, Some}
 use Rattle.std.specs.Option.{is_some, option_and_then, option_map_or, option_to_list}
 use Rattle.std.specs.List.{list_all, list_any}
+use Rattle.std.proofs.lemmas.Bool.{false≢true}
 use Rattle.std.proofs.lemmas.List.Folds.{list_all-map, list_any-append}
 use Rattle.ckr_jcl.specs.declared.deck.Job.{Job}
 use Rattle.ckr_library.specs.declared.uses.Use.{Use}
@@ -10,9 +11,13 @@ use Rattle.ckr_uses.proofs.Conflicts.{holds-merged}
 use Rattle.ckr_points.specs.Follows.{may_hold}
 use Rattle.ckr_points.specs.Office.{is_holder}
 use Rattle.ckr_points.specs.Rows.{RunRow, TablesModel, run_of}
+use Rattle.ckr_points.specs.declared.run.Run.{Run}
+use Rattle.ckr_points.specs.declared.run.RunState.{RunState}
+use Rattle.ckr_points.specs.declared.run.RunState.TheVariants.{Queued, On, Held as HeldRun, Released as ReleasedRun, Ended, Denied, Purged}
+use Rattle.ckr_points_tables.specs.EndedRuns.{has_ended}
 use Rattle.ckr_points_tables.specs.RunRows.{IsRunRow}
 use Rattle.ckr_points_tables.specs.View.{line_of}
-use Rattle.ckr_points_follows.specs.DeckConflicts.{may_be_beside}
+use Rattle.ckr_points_follows.specs.DeckConflicts.{holds_beside, may_be_beside}
 use Rattle.ckr_points_follows.proofs.Lists.{all-same, any-flat_mapped, any-option}
 
 -- a test of the uses of a deck, step by step
@@ -29,6 +34,19 @@ unfolding uses_of
 holds-dds run other job other_job = holds-merged (uses_of_dds run job) (uses_of_dds other other_job)
 
 -- ---- beside each run
+
+-- a run may be selected beside one that has ended
+pub beside-ended : (tables : TablesModel) (row : RunRow) (line : Run) → has_ended line.state ≡ true → may_be_beside tables row line ≡ true
+beside-ended tables row line ended = ap (λ holder. not (holder && holds_beside tables row line.number)) (no-holder line.state ended)
+  where
+    no-holder : (state : RunState) → has_ended state ≡ true → is_holder state ≡ false
+    no-holder Queued e = refl
+    no-holder On e = absurd (false≢true e)
+    no-holder HeldRun e = absurd (false≢true e)
+    no-holder ReleasedRun e = absurd (false≢true e)
+    no-holder Ended e = refl
+    no-holder Denied e = refl
+    no-holder Purged e = refl
 
 module _ (tables : TablesModel) (rows : (job : ℕ) (row : RunRow) → run_of tables job ≡ Some row → IsRunRow job row) (row : RunRow) where
   beside : (place : ℕ) (other : RunRow) → slice_get tables.runs place ≡ Some other → may_be_beside tables row (line_of other) ≡ not (is_holder other.state && holds (uses_of row.number row.deck) (uses_of other.number other.deck))

@@ -8,5 +8,5 @@ pub returns : goal.returns
 returns c =
     ap (λ v. length v.room.each) (sym c.tables.view_is)
     ∙ length-map c.tables.inside.tables.items room_of
-    ∙ sym (length-rows 1 c.tables.inside.lines.items c.tables.inside.tables.items c.tables.invariant.runs).1
+    ∙ sym (length-rows 1 c.tables.inside.lines.items c.tables.inside.tables.items c.tables.invariant.kept.runs).1
     ∙ ap (λ v. length v.desk.runs) c.tables.view_is

@@ -12,4 +12,4 @@ returns-clause-sets c =
 
 pub returns-clause-wide : goal.returns-clause-wide
 returns-clause-wide c =
-    subst (λ (v : RoomyTables). EachEntry (λ (table : TableSet). 1 ≤ table.set.lrecl) v.desk.sets) c.self.view_is (seen-wide (map written_of c.self.inside.writings.items) c.self.inside.library.sets c.self.invariant.wide)
+    subst (λ (v : RoomyTables). EachEntry (λ (table : TableSet). 1 ≤ table.set.lrecl) v.desk.sets) c.self.view_is (seen-wide (map written_of c.self.inside.writings.items) c.self.inside.library.sets c.self.invariant.kept.wide)

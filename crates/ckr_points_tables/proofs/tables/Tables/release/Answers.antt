@@ -4,6 +4,7 @@ use Rattle.ckr_points_tables.specs.View.{rows_of, seen_under, table_in, written_
 use Rattle.ckr_points.specs.declared.run.RunState.TheVariants.{Held as HeldRun}
 use Rattle.ckr_points.specs.Follows.{is_in_state}
 use Rattle.ckr_points.specs.Rows.{TablesModel}
+use Rattle.ckr_points_tables.proofs.EndedRuns.{ended-set}
 use Rattle.ckr_points_tables.proofs.RunMoves.{of_run-placed}
 use Rattle.ckr_points_tables.proofs.Releases.{placed, kept_released, desk_released}
 use Rattle.ckr_points_tables.proofs.tables.Tables.release.Goals as goal
@@ -12,14 +13,17 @@ pub overflow_sub-place : goal.overflow_sub-place
 overflow_sub-place c = let at = of_run-placed c.args.self.now.desk c.args.job (is_in_state HeldRun) c.requires.follows.1 in omega (arith, at.0)
 
 pub index_mut-requires : goal.index_mut-requires
-index_mut-requires c = let at = placed c.self.inside c.args.self.now c.self.view_is c.self.invariant c.args.job c.requires.follows in omega (arith, at.lined, c.self.inside.lines.ok.0)
+index_mut-requires c = let at = placed c.self.inside c.args.self.now c.self.view_is c.self.invariant.kept c.args.job c.requires.follows in omega (arith, at.lined, c.self.inside.lines.ok.0)
 
 pub invariant_of-self : goal.invariant_of-self
-invariant_of-self c =
-    subst (λ line. AreKept c.self.inside.library.sets (slice_set c.self.inside.lines.items (c.args.job - 1) line) c.self.inside.tables.items c.self.inside.index c.self.inside.spare.marks.items c.self.inside.writings.items) (sym c.release_run.ensures)
-    (kept_released c.self.inside c.args.self.now c.self.view_is c.self.invariant c.args.job c.requires.follows c.index_mut.result.now c.index_mut.ensures.value)
+invariant_of-self c = record {
+  kept =
+      subst (λ line. AreKept c.self.inside.library.sets (slice_set c.self.inside.lines.items (c.args.job - 1) line) c.self.inside.tables.items c.self.inside.index c.self.inside.spare.marks.items c.self.inside.writings.items) (sym c.release_run.ensures)
+      (kept_released c.self.inside c.args.self.now c.self.view_is c.self.invariant.kept c.args.job c.requires.follows c.index_mut.result.now c.index_mut.ensures.value);
+  ended = ended-set c.self.inside.ended (c.args.job - 1) c.self.inside.lines.items _ c.min-self-inside.result c.min-self-inside.ensures c.self.invariant.ended;
+}
 
 pub returns : goal.returns
 returns c = λ deck.
     ap (λ line. let all : TablesModel = record { sets = seen_under (table_in (map written_of c.self.inside.writings.items)) c.self.inside.library.sets; runs = rows_of (slice_set c.self.inside.lines.items (c.args.job - 1) line) c.self.inside.tables.items } in all) c.release_run.ensures
-    ∙ desk_released c.self.inside c.args.self.now c.self.view_is c.self.invariant c.args.job c.requires.follows c.index_mut.result.now c.index_mut.ensures.value deck
+    ∙ desk_released c.self.inside c.args.self.now c.self.view_is c.self.invariant.kept c.args.job c.requires.follows c.index_mut.result.now c.index_mut.ensures.value deck

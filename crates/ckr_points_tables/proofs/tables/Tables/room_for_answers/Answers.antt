@@ -21,16 +21,19 @@ reserve_answers-requires c =
     let old = c.index_mut.result.now in
     let inside : place < length tables = omega (arith, (c.in-Some.ensures.some place refl).1, ap length c.as_slice.ensures.value) in
     let here : slice_get tables place ≡ Some old = get-from tables place old inside c.index_mut.ensures.value in
-    record { fits = fits_there c.self.inside.lines.items tables c.self.invariant.runs place old old here c.args.job (c.in-Some.ensures.some place refl).0 }
+    record { fits = fits_there c.self.inside.lines.items tables c.self.invariant.kept.runs place old old here c.args.job (c.in-Some.ensures.some place refl).0 }
 
 pub invariant_of-self : goal.invariant_of-self
-invariant_of-self c =
-    let tables = c.self.inside.tables.items in
-    let place = c.in-Some.place in
-    let old = c.index_mut.result.now in
-    let inside : place < length tables = omega (arith, (c.in-Some.ensures.some place refl).1, ap length c.as_slice.ensures.value) in
-    let here : slice_get tables place ≡ Some old = get-from tables place old inside c.index_mut.ensures.value in
-    kept_there c.self.inside.lines.items tables c.self.invariant.runs place old c.reserve_answers.new.table here c.reserve_answers.ensures.facts c.self.inside.library.sets c.self.inside.index c.self.inside.spare.marks.items c.self.inside.writings.items c.self.invariant
+invariant_of-self c = record {
+  kept =
+      let tables = c.self.inside.tables.items in
+      let place = c.in-Some.place in
+      let old = c.index_mut.result.now in
+      let inside : place < length tables = omega (arith, (c.in-Some.ensures.some place refl).1, ap length c.as_slice.ensures.value) in
+      let here : slice_get tables place ≡ Some old = get-from tables place old inside c.index_mut.ensures.value in
+      kept_there c.self.inside.lines.items tables c.self.invariant.kept.runs place old c.reserve_answers.new.table here c.reserve_answers.ensures.facts c.self.inside.library.sets c.self.inside.index c.self.inside.spare.marks.items c.self.inside.writings.items c.self.invariant.kept;
+  ended = c.self.invariant.ended;
+}
 
 pub returns-in-Some-clause-desk : goal.returns-in-Some-clause-desk
 returns-in-Some-clause-desk c =
@@ -39,7 +42,7 @@ returns-in-Some-clause-desk c =
     let old = c.index_mut.result.now in
     let inside : place < length tables = omega (arith, (c.in-Some.ensures.some place refl).1, ap length c.as_slice.ensures.value) in
     let here : slice_get tables place ≡ Some old = get-from tables place old inside c.index_mut.ensures.value in
-    ap (λ runs. let all : TablesModel = record { sets = seen_under (table_in (map written_of c.self.inside.writings.items)) c.self.inside.library.sets; runs = runs } in all) (rows_there c.self.inside.lines.items tables c.self.invariant.runs place old c.reserve_answers.new.table here c.reserve_answers.ensures.facts)
+    ap (λ runs. let all : TablesModel = record { sets = seen_under (table_in (map written_of c.self.inside.writings.items)) c.self.inside.library.sets; runs = runs } in all) (rows_there c.self.inside.lines.items tables c.self.invariant.kept.runs place old c.reserve_answers.new.table here c.reserve_answers.ensures.facts)
     ∙ ap (λ v. v.desk) c.self.view_is
 
 pub returns-in-Some-clause-restart : goal.returns-in-Some-clause-restart
@@ -66,7 +69,7 @@ returns-in-Some-clause-restart c =
     let job = (c.in-Some.ensures.some place refl).0 in
     on_ok_weaker c.reserve_answers.result
     (λ fits row one found roomed.
-    restart_there c.self.inside.lines.items tables c.self.invariant.runs place old c.reserve_answers.new.table here c.reserve_answers.ensures.facts c.args.checkpoint (map written_of c.self.inside.writings.items) c.self.inside.library.sets
+    restart_there c.self.inside.lines.items tables c.self.invariant.kept.runs place old c.reserve_answers.new.table here c.reserve_answers.ensures.facts c.args.checkpoint (map written_of c.self.inside.writings.items) c.self.inside.library.sets
     (subst (λ all. HasPassedFor c.reserve_answers.new.table.passed.room (passed_for c.args.checkpoint (map written_of all) c.self.inside.library.sets (facts_of old))) c.as_slice-in-Some.ensures.value fits)
     row one (ap (run_of desk) (sym job) ∙ found) (ap (room_at room) (sym job) ∙ roomed))
     c.reserve_answers.ensures.restart
@@ -95,7 +98,7 @@ returns-in-Some-clause-end c =
     let job = (c.in-Some.ensures.some place refl).0 in
     on_ok_weaker c.reserve_answers.result
     (λ fits row one found roomed.
-    end_there c.self.inside.lines.items tables c.self.invariant.runs place old c.reserve_answers.new.table here c.reserve_answers.ensures.facts c.args.job job fits
+    end_there c.self.inside.lines.items tables c.self.invariant.kept.runs place old c.reserve_answers.new.table here c.reserve_answers.ensures.facts c.args.job job fits
     row one (ap (run_of desk) (sym job) ∙ found) (ap (room_at room) (sym job) ∙ roomed))
     c.reserve_answers.ensures.end
 
@@ -129,7 +132,7 @@ returns-in-Some-clause-room c =
       sorted = omega arith;
       marks = omega arith;
       passed = omega arith;
-      each = λ job one two first second. each_by c.self.inside.lines.items tables c.self.invariant.runs place old c.reserve_answers.new.table here more (tables_seen c.self.inside).room room refl refl job one two first second;
+      each = λ job one two first second. each_by c.self.inside.lines.items tables c.self.invariant.kept.runs place old c.reserve_answers.new.table here more (tables_seen c.self.inside).room room refl refl job one two first second;
       writings = omega arith;
       entries = entries-stay (tables_seen c.self.inside).room room refl;
     })
@@ -137,9 +140,9 @@ returns-in-Some-clause-room c =
 pub returns-in-None-clause-restart : goal.returns-in-None-clause-restart
 returns-in-None-clause-restart c = λ row one found roomed.
     absurd (none_beyond c.args.self.now.desk c.args.job row
-    (subst (HasNoPlace c.args.job) (ap length c.as_slice.ensures.value ∙ sym (length-rows 1 c.self.inside.lines.items c.self.inside.tables.items c.self.invariant.runs).1 ∙ ap (λ v. length v.desk.runs) c.self.view_is) (c.in-None.ensures.none refl)) found)
+    (subst (HasNoPlace c.args.job) (ap length c.as_slice.ensures.value ∙ sym (length-rows 1 c.self.inside.lines.items c.self.inside.tables.items c.self.invariant.kept.runs).1 ∙ ap (λ v. length v.desk.runs) c.self.view_is) (c.in-None.ensures.none refl)) found)
 
 pub returns-in-None-clause-end : goal.returns-in-None-clause-end
 returns-in-None-clause-end c = λ row one found roomed.
     absurd (none_beyond c.args.self.now.desk c.args.job row
-    (subst (HasNoPlace c.args.job) (ap length c.as_slice.ensures.value ∙ sym (length-rows 1 c.self.inside.lines.items c.self.inside.tables.items c.self.invariant.runs).1 ∙ ap (λ v. length v.desk.runs) c.self.view_is) (c.in-None.ensures.none refl)) found)
+    (subst (HasNoPlace c.args.job) (ap length c.as_slice.ensures.value ∙ sym (length-rows 1 c.self.inside.lines.items c.self.inside.tables.items c.self.invariant.kept.runs).1 ∙ ap (λ v. length v.desk.runs) c.self.view_is) (c.in-None.ensures.none refl)) found)

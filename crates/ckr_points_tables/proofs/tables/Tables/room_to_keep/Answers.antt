@@ -23,7 +23,7 @@ index-requires c =
 
 pub index_mut-requires : goal.index_mut-requires
 index_mut-requires c =
-    omega (arith, (c.in-Some.ensures.some c.in-Some.place refl).1, ap length c.as_slice.ensures.value, c.self.invariant.written, c.self.inside.writings.ok.0)
+    omega (arith, (c.in-Some.ensures.some c.in-Some.place refl).1, ap length c.as_slice.ensures.value, c.self.invariant.kept.written, c.self.inside.writings.ok.0)
 
 pub reserve_checkpoint-requires : goal.reserve_checkpoint-requires
 reserve_checkpoint-requires c =
@@ -33,17 +33,20 @@ reserve_checkpoint-requires c =
     let at = c.in-Some.ensures.some place refl in
     let inside : place < length tables = omega (arith, at.1, ap length c.as_slice.ensures.value) in
     let here : slice_get tables place ≡ Some table = get-from tables place table inside c.index.ensures in
-    record { fits = fits_there c.self.inside.lines.items tables c.self.invariant.runs place table table here c.args.job at.0 }
+    record { fits = fits_there c.self.inside.lines.items tables c.self.invariant.kept.runs place table table here c.args.job at.0 }
 
 pub invariant_of-self : goal.invariant_of-self
 invariant_of-self c = record {
-  wide = subst (EachEntry IsWide) (sym c.reserve_checkpoint.ensures.sets) c.self.invariant.wide;
-  filled = subst (EachEntry IsFilled) (sym c.reserve_checkpoint.ensures.sets) c.self.invariant.filled;
-  runs = c.self.invariant.runs;
-  few = c.self.invariant.few;
-  indexed = c.self.invariant.indexed;
-  spare = c.reserve_checkpoint.ensures.marks ∙ c.self.invariant.spare;
-  written = length-set c.self.inside.writings.items c.in-Some.place c.reserve_checkpoint.new.entries ∙ c.self.invariant.written;
+  kept = record {
+    wide = subst (EachEntry IsWide) (sym c.reserve_checkpoint.ensures.sets) c.self.invariant.kept.wide;
+    filled = subst (EachEntry IsFilled) (sym c.reserve_checkpoint.ensures.sets) c.self.invariant.kept.filled;
+    runs = c.self.invariant.kept.runs;
+    few = c.self.invariant.kept.few;
+    indexed = c.self.invariant.kept.indexed;
+    spare = c.reserve_checkpoint.ensures.marks ∙ c.self.invariant.kept.spare;
+    written = length-set c.self.inside.writings.items c.in-Some.place c.reserve_checkpoint.new.entries ∙ c.self.invariant.kept.written;
+  };
+  ended = c.self.invariant.ended;
 }
 
 pub returns-in-Some-clause-desk : goal.returns-in-Some-clause-desk
@@ -52,7 +55,7 @@ returns-in-Some-clause-desk c =
     let place = c.in-Some.place in
     let old = c.index_mut.result.now in
     let new = c.reserve_checkpoint.new.entries in
-    let inside : place < length writings = omega (arith, (c.in-Some.ensures.some place refl).1, ap length c.as_slice.ensures.value, c.self.invariant.written) in
+    let inside : place < length writings = omega (arith, (c.in-Some.ensures.some place refl).1, ap length c.as_slice.ensures.value, c.self.invariant.kept.written) in
     let here : slice_get writings place ≡ Some old = get-from writings place old inside c.index_mut.ensures.value in
     let same : map written_of (slice_set writings place new) ≡ map written_of writings =
     map-set written_of writings place new ∙ ap (λ items. slice_set (map written_of writings) place (map writing_of items)) c.reserve_checkpoint.ensures.entries
@@ -89,18 +92,18 @@ returns-in-Some-clause-ok c =
     let seen = map written_of (slice_set writings place new) in
     let desk : TablesModel = record { sets = seen_under (table_in seen) c.reserve_checkpoint.new.library.sets; runs = rows_of lines tables } in
     let now : RoomyTables = record { desk = desk; room = room } in
-    let line = (line_there lines tables c.self.invariant.runs place table table here).0 in
-    let number : line.number ≡ c.args.job = numbered_there lines tables c.self.invariant.runs place table table here ∙ omega (arith, at.0) in
+    let line = (line_there lines tables c.self.invariant.kept.runs place table table here).0 in
+    let number : line.number ≡ c.args.job = numbered_there lines tables c.self.invariant.kept.runs place table table here ∙ omega (arith, at.0) in
     on_ok_weaker c.reserve_checkpoint.result
     (λ fits row found.
     let same : row ≡ row_of line table =
-    same_Some row (row_of line table) (sym found ∙ ap (run_of desk) at.0 ∙ found_there lines tables c.self.invariant.runs place table table here) in
+    same_Some row (row_of line table) (sym found ∙ ap (run_of desk) at.0 ∙ found_there lines tables c.self.invariant.kept.runs place table table here) in
     subst (HasEntryRoom now) (sym same)
     (checkpoint_there line table now c.reserve_checkpoint.new.library c.reserve_checkpoint.new.spare new
     (subst (λ n. EntryFits n table new c.reserve_checkpoint.new.library c.reserve_checkpoint.new.spare) (sym number) fits) refl refl refl refl
     (has-seen seen c.reserve_checkpoint.new.library)
     (λ more is.
-    let there : slice_get writings place ≡ Some old = get-from writings place old (omega (arith, inside, c.self.invariant.written)) c.index_mut.ensures.value in
+    let there : slice_get writings place ≡ Some old = get-from writings place old (omega (arith, inside, c.self.invariant.kept.written)) c.index_mut.ensures.value in
     let back : Some more ≡ Some new.room =
     sym is ∙ ap (entries_at room) (number ∙ at.0) ∙ slice_get-map (λ (written : Roomy WrittenEntry). written.room) (slice_set writings place new) place
     ∙ ap (option_map (λ (written : Roomy WrittenEntry). written.room)) (get-set-same writings place new old there) in
@@ -113,7 +116,7 @@ returns-in-Some-clause-room c =
     let place = c.in-Some.place in
     let old = c.index_mut.result.now in
     let new = c.reserve_checkpoint.new.entries in
-    let inside : place < length writings = omega (arith, (c.in-Some.ensures.some place refl).1, ap length c.as_slice.ensures.value, c.self.invariant.written) in
+    let inside : place < length writings = omega (arith, (c.in-Some.ensures.some place refl).1, ap length c.as_slice.ensures.value, c.self.invariant.kept.written) in
     let here : slice_get writings place ≡ Some old = get-from writings place old inside c.index_mut.ensures.value in
     let room : TablesRoom = record {
       sets = c.reserve_checkpoint.new.library.room;
@@ -145,4 +148,4 @@ returns-in-Some-clause-room c =
 pub returns-in-None-clause-ok : goal.returns-in-None-clause-ok
 returns-in-None-clause-ok c = λ row found.
     absurd (none_beyond c.args.self.now.desk c.args.job row
-    (subst (HasNoPlace c.args.job) (ap length c.as_slice.ensures.value ∙ sym (length-rows 1 c.self.inside.lines.items c.self.inside.tables.items c.self.invariant.runs).1 ∙ ap (λ v. length v.desk.runs) c.self.view_is) (c.in-None.ensures.none refl)) found)
+    (subst (HasNoPlace c.args.job) (ap length c.as_slice.ensures.value ∙ sym (length-rows 1 c.self.inside.lines.items c.self.inside.tables.items c.self.invariant.kept.runs).1 ∙ ap (λ v. length v.desk.runs) c.self.view_is) (c.in-None.ensures.none refl)) found)

@@ -15,13 +15,16 @@ use Rattle.ckr_points_tables.proofs.Runs.{length-rows}
 use Rattle.ckr_points_tables.proofs.tables.Tables.room_to_restart.Goals as goal
 
 pub invariant_of-self : goal.invariant_of-self
-invariant_of-self c =
-    let tables = c.self.inside.tables.items in
-    let place = c.in-Some.place in
-    let old = c.index_mut.result.now in
-    let inside : place < length tables = omega (arith, (c.in-Some.ensures.some place refl).1, ap length c.as_slice.ensures.value) in
-    let here : slice_get tables place ≡ Some old = get-from tables place old inside c.index_mut.ensures.value in
-    kept_there c.self.inside.lines.items tables c.self.invariant.runs place old c.reserve_restart.new.table here c.reserve_restart.ensures.facts c.self.inside.library.sets c.self.inside.index c.self.inside.spare.marks.items c.self.inside.writings.items c.self.invariant
+invariant_of-self c = record {
+  kept =
+      let tables = c.self.inside.tables.items in
+      let place = c.in-Some.place in
+      let old = c.index_mut.result.now in
+      let inside : place < length tables = omega (arith, (c.in-Some.ensures.some place refl).1, ap length c.as_slice.ensures.value) in
+      let here : slice_get tables place ≡ Some old = get-from tables place old inside c.index_mut.ensures.value in
+      kept_there c.self.inside.lines.items tables c.self.invariant.kept.runs place old c.reserve_restart.new.table here c.reserve_restart.ensures.facts c.self.inside.library.sets c.self.inside.index c.self.inside.spare.marks.items c.self.inside.writings.items c.self.invariant.kept;
+  ended = c.self.invariant.ended;
+}
 
 pub returns-in-Some-clause-desk : goal.returns-in-Some-clause-desk
 returns-in-Some-clause-desk c =
@@ -30,7 +33,7 @@ returns-in-Some-clause-desk c =
     let old = c.index_mut.result.now in
     let inside : place < length tables = omega (arith, (c.in-Some.ensures.some place refl).1, ap length c.as_slice.ensures.value) in
     let here : slice_get tables place ≡ Some old = get-from tables place old inside c.index_mut.ensures.value in
-    ap (λ runs. let all : TablesModel = record { sets = seen_under (table_in (map written_of c.self.inside.writings.items)) c.self.inside.library.sets; runs = runs } in all) (rows_there c.self.inside.lines.items tables c.self.invariant.runs place old c.reserve_restart.new.table here c.reserve_restart.ensures.facts)
+    ap (λ runs. let all : TablesModel = record { sets = seen_under (table_in (map written_of c.self.inside.writings.items)) c.self.inside.library.sets; runs = runs } in all) (rows_there c.self.inside.lines.items tables c.self.invariant.kept.runs place old c.reserve_restart.new.table here c.reserve_restart.ensures.facts)
     ∙ ap (λ v. v.desk) c.self.view_is
 
 pub returns-in-Some-clause-ok : goal.returns-in-Some-clause-ok
@@ -57,7 +60,7 @@ returns-in-Some-clause-ok c =
     let job = (c.in-Some.ensures.some place refl).0 in
     on_ok_weaker c.reserve_restart.result
     (λ fits row one found roomed.
-    restart_there c.self.inside.lines.items tables c.self.invariant.runs place old c.reserve_restart.new.table here c.reserve_restart.ensures.facts c.args.checkpoint (map written_of c.self.inside.writings.items) c.self.inside.library.sets
+    restart_there c.self.inside.lines.items tables c.self.invariant.kept.runs place old c.reserve_restart.new.table here c.reserve_restart.ensures.facts c.args.checkpoint (map written_of c.self.inside.writings.items) c.self.inside.library.sets
     (subst (λ all. HasPassedFor c.reserve_restart.new.table.passed.room (passed_for c.args.checkpoint (map written_of all) c.self.inside.library.sets (facts_of old))) c.as_slice-in-Some.ensures.value fits)
     row one (ap (run_of desk) (sym job) ∙ found) (ap (room_at room) (sym job) ∙ roomed))
     c.reserve_restart.ensures.ok
@@ -92,7 +95,7 @@ returns-in-Some-clause-room c =
       sorted = omega arith;
       marks = omega arith;
       passed = omega arith;
-      each = λ job one two first second. each_by c.self.inside.lines.items tables c.self.invariant.runs place old c.reserve_restart.new.table here more (tables_seen c.self.inside).room room refl refl job one two first second;
+      each = λ job one two first second. each_by c.self.inside.lines.items tables c.self.invariant.kept.runs place old c.reserve_restart.new.table here more (tables_seen c.self.inside).room room refl refl job one two first second;
       writings = omega arith;
       entries = entries-stay (tables_seen c.self.inside).room room refl;
     })
@@ -100,4 +103,4 @@ returns-in-Some-clause-room c =
 pub returns-in-None-clause-ok : goal.returns-in-None-clause-ok
 returns-in-None-clause-ok c = λ row one found roomed.
     absurd (none_beyond c.args.self.now.desk c.args.job row
-    (subst (HasNoPlace c.args.job) (ap length c.as_slice.ensures.value ∙ sym (length-rows 1 c.self.inside.lines.items c.self.inside.tables.items c.self.invariant.runs).1 ∙ ap (λ v. length v.desk.runs) c.self.view_is) (c.in-None.ensures.none refl)) found)
+    (subst (HasNoPlace c.args.job) (ap length c.as_slice.ensures.value ∙ sym (length-rows 1 c.self.inside.lines.items c.self.inside.tables.items c.self.invariant.kept.runs).1 ∙ ap (λ v. length v.desk.runs) c.self.view_is) (c.in-None.ensures.none refl)) found)

@@ -20,18 +20,21 @@ reserve_start-requires c =
     let old = c.index_mut.result.now in
     let inside : place < length tables = omega (arith, (c.in-Some.ensures.some place refl).1, ap length c.as_slice.ensures.value) in
     let here : slice_get tables place ≡ Some old = get-from tables place old inside c.index_mut.ensures.value in
-    record { fits = fits_there c.self.inside.lines.items tables c.self.invariant.runs place old old here c.args.job (c.in-Some.ensures.some place refl).0 }
+    record { fits = fits_there c.self.inside.lines.items tables c.self.invariant.kept.runs place old old here c.args.job (c.in-Some.ensures.some place refl).0 }
 
 pub invariant_of-self : goal.invariant_of-self
-invariant_of-self c =
-    let tables = c.self.inside.tables.items in
-    let place = c.in-Some.place in
-    let old = c.index_mut.result.now in
-    let inside : place < length tables = omega (arith, (c.in-Some.ensures.some place refl).1, ap length c.as_slice.ensures.value) in
-    let here : slice_get tables place ≡ Some old = get-from tables place old inside c.index_mut.ensures.value in
-    subst (λ sets. AreKept sets c.self.inside.lines.items (slice_set tables place c.reserve_start.new.table) c.self.inside.index c.reserve_start.new.spare.marks.items c.self.inside.writings.items) (sym c.reserve_start.ensures.sets)
-    (subst (λ marks. AreKept c.self.inside.library.sets c.self.inside.lines.items (slice_set tables place c.reserve_start.new.table) c.self.inside.index marks c.self.inside.writings.items) (sym c.reserve_start.ensures.marks)
-    (kept_there c.self.inside.lines.items tables c.self.invariant.runs place old c.reserve_start.new.table here c.reserve_start.ensures.facts c.self.inside.library.sets c.self.inside.index c.self.inside.spare.marks.items c.self.inside.writings.items c.self.invariant))
+invariant_of-self c = record {
+  kept =
+      let tables = c.self.inside.tables.items in
+      let place = c.in-Some.place in
+      let old = c.index_mut.result.now in
+      let inside : place < length tables = omega (arith, (c.in-Some.ensures.some place refl).1, ap length c.as_slice.ensures.value) in
+      let here : slice_get tables place ≡ Some old = get-from tables place old inside c.index_mut.ensures.value in
+      subst (λ sets. AreKept sets c.self.inside.lines.items (slice_set tables place c.reserve_start.new.table) c.self.inside.index c.reserve_start.new.spare.marks.items c.self.inside.writings.items) (sym c.reserve_start.ensures.sets)
+      (subst (λ marks. AreKept c.self.inside.library.sets c.self.inside.lines.items (slice_set tables place c.reserve_start.new.table) c.self.inside.index marks c.self.inside.writings.items) (sym c.reserve_start.ensures.marks)
+      (kept_there c.self.inside.lines.items tables c.self.invariant.kept.runs place old c.reserve_start.new.table here c.reserve_start.ensures.facts c.self.inside.library.sets c.self.inside.index c.self.inside.spare.marks.items c.self.inside.writings.items c.self.invariant.kept));
+  ended = c.self.invariant.ended;
+}
 
 pub returns-in-Some-clause-desk : goal.returns-in-Some-clause-desk
 returns-in-Some-clause-desk c =
@@ -40,7 +43,7 @@ returns-in-Some-clause-desk c =
     let old = c.index_mut.result.now in
     let inside : place < length tables = omega (arith, (c.in-Some.ensures.some place refl).1, ap length c.as_slice.ensures.value) in
     let here : slice_get tables place ≡ Some old = get-from tables place old inside c.index_mut.ensures.value in
-    ap (λ runs. let all : TablesModel = record { sets = seen_under (table_in (map written_of c.self.inside.writings.items)) c.reserve_start.new.library.sets; runs = runs } in all) (rows_there c.self.inside.lines.items tables c.self.invariant.runs place old c.reserve_start.new.table here c.reserve_start.ensures.facts)
+    ap (λ runs. let all : TablesModel = record { sets = seen_under (table_in (map written_of c.self.inside.writings.items)) c.reserve_start.new.library.sets; runs = runs } in all) (rows_there c.self.inside.lines.items tables c.self.invariant.kept.runs place old c.reserve_start.new.table here c.reserve_start.ensures.facts)
     ∙ ap (λ sets. let all : TablesModel = record { sets = seen_under (table_in (map written_of c.self.inside.writings.items)) sets; runs = rows_of c.self.inside.lines.items tables } in all) c.reserve_start.ensures.sets ∙ ap (λ v. v.desk) c.self.view_is
 
 pub returns-in-Some-clause-ok : goal.returns-in-Some-clause-ok
@@ -67,7 +70,7 @@ returns-in-Some-clause-ok c =
     let job = (c.in-Some.ensures.some place refl).0 in
     on_ok_weaker c.reserve_start.result
     (λ fits row one found roomed.
-    start_there c.self.inside.lines.items tables c.self.invariant.runs place old c.reserve_start.new.table here c.reserve_start.ensures.facts room c.reserve_start.new.library c.reserve_start.new.spare c.args.job job fits refl refl refl refl
+    start_there c.self.inside.lines.items tables c.self.invariant.kept.runs place old c.reserve_start.new.table here c.reserve_start.ensures.facts room c.reserve_start.new.library c.reserve_start.new.spare c.args.job job fits refl refl refl refl
     row one (ap (run_of desk) (sym job) ∙ found) (ap (room_at room) (sym job) ∙ roomed))
     c.reserve_start.ensures.ok
 
@@ -101,7 +104,7 @@ returns-in-Some-clause-room c =
       sorted = c.reserve_start.ensures.more.sorted;
       marks = c.reserve_start.ensures.more.marks;
       passed = c.reserve_start.ensures.more.passed;
-      each = λ job one two first second. each_by c.self.inside.lines.items tables c.self.invariant.runs place old c.reserve_start.new.table here more (tables_seen c.self.inside).room room refl refl job one two first second;
+      each = λ job one two first second. each_by c.self.inside.lines.items tables c.self.invariant.kept.runs place old c.reserve_start.new.table here more (tables_seen c.self.inside).room room refl refl job one two first second;
       writings = omega arith;
       entries = entries-stay (tables_seen c.self.inside).room room refl;
     })
@@ -109,4 +112,4 @@ returns-in-Some-clause-room c =
 pub returns-in-None-clause-ok : goal.returns-in-None-clause-ok
 returns-in-None-clause-ok c = λ row one found roomed.
     absurd (none_beyond c.args.self.now.desk c.args.job row
-    (subst (HasNoPlace c.args.job) (ap length c.as_slice.ensures.value ∙ sym (length-rows 1 c.self.inside.lines.items c.self.inside.tables.items c.self.invariant.runs).1 ∙ ap (λ v. length v.desk.runs) c.self.view_is) (c.in-None.ensures.none refl)) found)
+    (subst (HasNoPlace c.args.job) (ap length c.as_slice.ensures.value ∙ sym (length-rows 1 c.self.inside.lines.items c.self.inside.tables.items c.self.invariant.kept.runs).1 ∙ ap (λ v. length v.desk.runs) c.self.view_is) (c.in-None.ensures.none refl)) found)

@@ -1,46 +1,12 @@
-use Rattle.std.proofs.Common.{◌≡◌, ℕ, zero, suc, ◌<◌, ◌≤◌, true, List, length, map, ap, sym, ◌∙◌, subst, arith, Some, slice_get}
-use Rattle.ckr_base.proofs.Numbers.{one-plus}
-use Rattle.ckr_base.proofs.Options.{some-not-none}
-use Rattle.ckr_base.proofs.Sequences.{get-inside}
-use Rattle.ckr_points.specs.declared.run.Run.{Run}
-use Rattle.ckr_points.specs.Rows.{RunRow, TablesModel, run_of}
-use Rattle.ckr_points_tables.specs.declared.run_table.RunTable.{RunTable}
-use Rattle.ckr_points_tables.specs.Invariant.{AreRuns, IsRun}
-use Rattle.std.specs.List.{list_all}
-use Rattle.ckr_meaning.specs.EffectiveJob.{HasDistinctNames, OwnedStep}
-use Rattle.ckr_points_tables.specs.Rewrite.{has_master}
-use Rattle.ckr_points_tables.specs.RunJobs.{IsFitting, JobView, effective}
-use Rattle.ckr_points_tables.specs.RunRows.{IsRunRow}
-use Rattle.ckr_points_tables.specs.View.{RunTableView, job_in, line_of, row_of, row_with, rows_of}
-use Rattle.ckr_points_tables.proofs.Runs.{facts-row, lines-rows, run-at}
+use Rattle.std.proofs.Common.{map, ap, ◌∙◌}
+use Rattle.ckr_points_tables.specs.View.{line_of}
+use Rattle.ckr_points_tables.proofs.RunRows.{rows-are}
+use Rattle.ckr_points_tables.proofs.Runs.{lines-rows}
 use Rattle.ckr_points_tables.proofs.tables.Tables.runs.Goals as goal
 
-row-of : (number : ℕ) (line : Run) (table : RunTable) → number ≤ 9999999 → IsRun number line table → IsRunRow number (row_of line table)
-row-of number line table few is =
-    let facts = facts-row number line table is in
-    let job : table.job ≡ job_in (row_of line table) = ap (λ (all : RunTableView). all.job) facts in
-    record {
-      numbered = is.numbered;
-      told = ap (row_with line) facts;
-      few = few;
-      fits = subst (λ n. IsFitting (effective n table.job)) (sym is.numbered) is.fits;
-      limits = is.limits;
-      distinct = subst (λ n. HasDistinctNames (effective n table.job)) (sym is.numbered) is.distinct;
-      masters = subst (λ n. list_all (λ (own : OwnedStep). has_master own.step) (effective n table.job).steps ≡ true) (sym is.numbered) is.masters;
-      syschk = is.syschk;
-      taken = ap (λ (one : JobView). length one.taken) (sym job) ∙ is.taken;
-    }
-
-rows-are : (lines : List Run) (tables : List RunTable) → AreRuns 1 lines tables → length tables ≤ 9999999 → (desk : TablesModel) → rows_of lines tables ≡ desk.runs → (job : ℕ) (row : RunRow) → run_of desk job ≡ Some row → IsRunRow job row
-rows-are lines tables are few desk seen zero row found = absurd (some-not-none _ (sym found))
-rows-are lines tables are few desk seen (suc place) row found =
-    let at = run-at 1 lines tables are place row (ap (λ runs. slice_get runs place) seen ∙ found) in
-    let less : place < length tables = get-inside at.table tables place at.tabled in
-    subst (IsRunRow (suc place)) (sym at.same) (row-of (suc place) at.line at.table (omega (arith, less, few)) (subst (λ n. IsRun n at.line at.table) (one-plus place) at.is))
-
 pub returns-clause-rows : goal.returns-clause-rows
-returns-clause-rows c job row found = rows-are c.self.inside.lines.items c.self.inside.tables.items c.self.invariant.runs c.self.invariant.few c.args.self.now.desk (ap (λ v. v.desk.runs) c.self.view_is) job row found
+returns-clause-rows c job row found = rows-are c.self.inside.lines.items c.self.inside.tables.items c.self.invariant.kept.runs c.self.invariant.kept.few c.args.self.now.desk (ap (λ v. v.desk.runs) c.self.view_is) job row found
 
 pub returns-clause-lines : goal.returns-clause-lines
 returns-clause-lines c =
-    c.as_slice.ensures.value ∙ lines-rows 1 c.self.inside.lines.items c.self.inside.tables.items c.self.invariant.runs ∙ ap (λ v. map line_of v.desk.runs) c.self.view_is
+    c.as_slice.ensures.value ∙ lines-rows 1 c.self.inside.lines.items c.self.inside.tables.items c.self.invariant.kept.runs ∙ ap (λ v. map line_of v.desk.runs) c.self.view_is

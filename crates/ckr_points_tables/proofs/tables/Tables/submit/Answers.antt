@@ -16,10 +16,12 @@ use Rattle.ckr_points.specs.declared.run.Run.{Run}
 use Rattle.ckr_points.specs.declared.run.RunState.TheVariants.{Queued}
 use Rattle.ckr_points_tables.specs.declared.run_table.RunTable.{RunTable}
 use Rattle.ckr_points.specs.Tables.{after_submitted}
+use Rattle.ckr_points_tables.specs.EndedRuns.{AreEnded}
 use Rattle.ckr_points_tables.specs.Invariant.{AreRuns, IsIndexOf, IsRun, is_submittable}
 use Rattle.ckr_points_tables.specs.Rewrite.{has_master}
 use Rattle.ckr_points.specs.Rows.{TablesModel}
 use Rattle.ckr_points_tables.specs.View.{RunTableView, is_within_limits, row_with, rows_of, seen_under, table_in, written_of}
+use Rattle.ckr_points_tables.proofs.EndedRuns.{ended-append}
 use Rattle.ckr_points_tables.proofs.Runs.{index-more, length-rows, rows-more, runs-more}
 use Rattle.ckr_points_tables.proofs.Checkpoints.{seen-begun}
 use Rattle.ckr_points_tables.proofs.tables.Tables.submit.Goals as goal
@@ -62,39 +64,42 @@ asked number job may =
     }
 
 pub invariant_of-self : goal.invariant_of-self
-invariant_of-self c =
-    let line : Run = record { number = c.args.number; name = c.copied.result; state = Queued; initiator = None } in
-    let table : RunTable = c.fresh_table.result in
-    let lines = c.self.inside.lines.items in
-    let tables = c.self.inside.tables.items in
-    let lengths = length-rows 1 lines tables c.self.invariant.runs in
-    let next : 1 + length tables ≡ c.args.number = omega (arith, c.requires.next, ap (λ v. length v.desk.runs) c.self.view_is, lengths.1) in
-    let job : table.job ≡ plain_view c.args.number (rc_value c.args.deck) = ap (λ (facts : RunTableView). facts.job) c.fresh_table.ensures in
-    let of_deck = asked c.args.number (rc_value c.args.deck) c.requires.deck in
-    let is : IsRun (1 + length tables) line table = record {
-      numbered = sym next;
-      named = c.copied.ensures ∙ ap (λ (deck : Job). deck.name) c.as_ref.ensures ∙ ap (λ (j : JobView). j.deck.name) (sym job);
-      limits = ap (λ (j : JobView). is_within_limits j.deck) job ∙ of_deck.limits;
-      fits = subst (λ n. IsFitting (effective n table.job)) (sym next) (subst (λ j. IsFitting (effective c.args.number j)) (sym job) of_deck.fits);
-      distinct = subst (λ n. HasDistinctNames (effective n table.job)) (sym next) (subst (λ j. HasDistinctNames (effective c.args.number j)) (sym job) of_deck.distinct);
-      masters =
-          subst (λ n. list_all (λ (own : OwnedStep). has_master own.step) (effective n table.job).steps ≡ true) (sym next)
-          (subst (λ j. list_all (λ (own : OwnedStep). has_master own.step) (effective c.args.number j).steps ≡ true) (sym job) of_deck.masters);
-      syschk = ap (λ (j : JobView). names_its_set j.deck.syschk) job ∙ of_deck.syschk;
-      free = λ queued. refl;
-      taken = subst (λ (j : JobView). length j.taken ≡ j.earlier_step) (sym job) refl;
-    } in
-    record {
-      wide = c.self.invariant.wide;
-      filled = c.self.invariant.filled;
-      runs = subst (λ all. AreRuns 1 all c.put-2.new.items.items) (sym c.put.ensures) (subst (AreRuns 1 (lines ++ line ∷ [])) (sym c.put-2.ensures) (runs-more 1 lines tables c.self.invariant.runs line table is));
-      few = omega (arith, ap length c.put-2.ensures, length-append tables (table ∷ []), next, of_deck.few);
-      indexed = subst (IsIndexOf c.self.inside.index) (sym c.put.ensures) (index-more lines c.self.inside.index c.self.invariant.indexed line refl);
-      spare = c.self.invariant.spare;
-      written =
-          ap length c.put-3.ensures ∙ length-append c.self.inside.writings.items (c.new.result ∷ []) ∙ ap (λ n. n + 1) c.self.invariant.written
-          ∙ sym (ap length c.put-2.ensures ∙ length-append tables (table ∷ []));
-    }
+invariant_of-self c = record {
+  kept =
+      let line : Run = record { number = c.args.number; name = c.copied.result; state = Queued; initiator = None } in
+      let table : RunTable = c.fresh_table.result in
+      let lines = c.self.inside.lines.items in
+      let tables = c.self.inside.tables.items in
+      let lengths = length-rows 1 lines tables c.self.invariant.kept.runs in
+      let next : 1 + length tables ≡ c.args.number = omega (arith, c.requires.next, ap (λ v. length v.desk.runs) c.self.view_is, lengths.1) in
+      let job : table.job ≡ plain_view c.args.number (rc_value c.args.deck) = ap (λ (facts : RunTableView). facts.job) c.fresh_table.ensures in
+      let of_deck = asked c.args.number (rc_value c.args.deck) c.requires.deck in
+      let is : IsRun (1 + length tables) line table = record {
+        numbered = sym next;
+        named = c.copied.ensures ∙ ap (λ (deck : Job). deck.name) c.as_ref.ensures ∙ ap (λ (j : JobView). j.deck.name) (sym job);
+        limits = ap (λ (j : JobView). is_within_limits j.deck) job ∙ of_deck.limits;
+        fits = subst (λ n. IsFitting (effective n table.job)) (sym next) (subst (λ j. IsFitting (effective c.args.number j)) (sym job) of_deck.fits);
+        distinct = subst (λ n. HasDistinctNames (effective n table.job)) (sym next) (subst (λ j. HasDistinctNames (effective c.args.number j)) (sym job) of_deck.distinct);
+        masters =
+            subst (λ n. list_all (λ (own : OwnedStep). has_master own.step) (effective n table.job).steps ≡ true) (sym next)
+            (subst (λ j. list_all (λ (own : OwnedStep). has_master own.step) (effective c.args.number j).steps ≡ true) (sym job) of_deck.masters);
+        syschk = ap (λ (j : JobView). names_its_set j.deck.syschk) job ∙ of_deck.syschk;
+        free = λ queued. refl;
+        taken = subst (λ (j : JobView). length j.taken ≡ j.earlier_step) (sym job) refl;
+      } in
+      record {
+        wide = c.self.invariant.kept.wide;
+        filled = c.self.invariant.kept.filled;
+        runs = subst (λ all. AreRuns 1 all c.put-2.new.items.items) (sym c.put.ensures) (subst (AreRuns 1 (lines ++ line ∷ [])) (sym c.put-2.ensures) (runs-more 1 lines tables c.self.invariant.kept.runs line table is));
+        few = omega (arith, ap length c.put-2.ensures, length-append tables (table ∷ []), next, of_deck.few);
+        indexed = subst (IsIndexOf c.self.inside.index) (sym c.put.ensures) (index-more lines c.self.inside.index c.self.invariant.kept.indexed line refl);
+        spare = c.self.invariant.kept.spare;
+        written =
+            ap length c.put-3.ensures ∙ length-append c.self.inside.writings.items (c.new.result ∷ []) ∙ ap (λ n. n + 1) c.self.invariant.kept.written
+            ∙ sym (ap length c.put-2.ensures ∙ length-append tables (table ∷ []));
+      };
+  ended = subst (AreEnded c.self.inside.ended) (sym c.put.ensures) (ended-append c.self.inside.ended c.self.inside.lines.items (record { number = c.args.number; name = c.copied.result; state = Queued; initiator = None } ∷ []) c.self.invariant.ended);
+}
 
 pub returns : goal.returns
 returns c =
@@ -108,7 +113,7 @@ returns c =
     (
     ap (λ all. rows_of all c.put-2.new.items.items) c.put.ensures
     ∙ ap (rows_of (lines ++ line ∷ [])) c.put-2.ensures
-    ∙ rows-more lines tables (length-rows 1 lines tables c.self.invariant.runs).0 line table
+    ∙ rows-more lines tables (length-rows 1 lines tables c.self.invariant.kept.runs).0 line table
     ∙ ap (λ facts. rows_of lines tables ++ row_with line facts ∷ []) c.fresh_table.ensures
     )
     ∙ ap (λ v. after_submitted c.args.number (rc_value c.args.deck) v.desk) c.self.view_is
