@@ -144,13 +144,56 @@ impl Book {
         ensures cause { IfErr result (AppendCause (Rose (D.faults disk.old) (D.faults disk.new))
             (length bytes.now + 6) (room_of self.old)) }
     {
-        let need = bytes.len() as u32 + 6;
+        self.append_parts(disk, bytes, &[])
+    }
+
+    /// Adds a record whose bytes are given as two slices, one behind the other, so that a caller has no need to copy them
+    /// into one. What it does and when it fails is as at `append`.
+    pub fn append_parts<D: Disk>(
+        &mut self,
+        disk: &mut D,
+        front: &[u8],
+        rest: &[u8],
+    ) -> Result<(), BookError>
+        requires inside { IsInside self.old (D.size disk.old) }
+        requires small { length (front.now ++ rest.now) ≤ 4294967289 }
+        requires stands { StandsOn D.content D.may_leave self.old disk.old }
+
+        ensures stands { OnOk result (StandsOn D.content D.may_leave self.new disk.new) }
+        ensures appended { D.told → OnOk result (records_of self.new (D.content disk.new)
+            ≡ records_of self.old (D.content disk.old) ++ (front.now ++ rest.now) ∷ []) }
+
+        // A stop at any moment leaves the list, with the new record or without, and changes nothing else.
+        ensures any_moment { EachSince D.moment D.left_since disk.old disk.new (λ image.
+            IsBeforeOrAfter (records_of self.old (D.content disk.old)) (front.now ++ rest.now) (records_of self.old image)) }
+        ensures changes { ChangesWithin D.told D.content D.may_leave D.moment D.left_since
+            self.old.start self.old.size disk.old disk.new }
+
+        // Each of them opens again: a closed gate stands behind its list.
+        ensures opens_again { EachSince D.moment D.left_since disk.old disk.new (λ image.
+            ends_closed (part self.old.start self.old.size image)) }
+
+        ensures place { SamePlace self.old self.new }
+        ensures room { OnOk result (room_of self.new + (length (front.now ++ rest.now) + 5) ≡ room_of self.old) }
+        ensures settled { OnOk result (Only (D.content disk.new) (D.may_leave disk.new)) }
+        ensures kept { OnErr result (self.new ≡ self.old) }
+        ensures size { D.size disk.new ≡ D.size disk.old }
+        ensures faults { D.faults disk.old ≤ D.faults disk.new }
+
+        // `Full` comes exactly where the room is too small, and changes nothing.
+        ensures full { room_of self.old < length (front.now ++ rest.now) + 6
+            → result ≡ Err (BookError.Full (length (front.now ++ rest.now) + 6) (room_of self.old)) }
+        ensures unchanged { room_of self.old < length (front.now ++ rest.now) + 6 → disk.new ≡ disk.old }
+        ensures cause { IfErr result (AppendCause (Rose (D.faults disk.old) (D.faults disk.new))
+            (length (front.now ++ rest.now) + 6) (room_of self.old)) }
+    {
+        let need = length_of(front, rest) + 6;
         let room = self.room();
         if need > room {
             return Err(BookError::Full { need, room });
         }
         let gate = self.gate();
-        stage(disk, gate, bytes)?;
+        stage(disk, gate, front, rest)?;
         open_gate(disk, gate)?;
         self.go_on(need - 1);
         Ok(())
@@ -243,19 +286,27 @@ fn read_length<D: Disk>(disk: &mut D, at: u64) -> Result<u32, Failed>
     Ok(u32::from_be_bytes(buf))
 }
 
+/// How many bytes a record has that is given as two slices.
+fn length_of(front: &[u8], rest: &[u8]) -> u32
+    requires { length (front.now ++ rest.now) ≤ 4294967289 }
+    ensures { result ≡ length (front.now ++ rest.now) }
+{
+    front.len() as u32 + rest.len() as u32
+}
+
 /// Puts a record behind its closed gate for good.
-fn stage<D: Disk>(disk: &mut D, gate: u64, bytes: &[u8]) -> Result<(), Failed>
-    requires fits { gate + (length bytes.now + 6) ≤ D.size disk.old }
-    requires small { length bytes.now ≤ 4294967289 }
+fn stage<D: Disk>(disk: &mut D, gate: u64, front: &[u8], rest: &[u8]) -> Result<(), Failed>
+    requires fits { gate + (length (front.now ++ rest.now) + 6) ≤ D.size disk.old }
+    requires small { length (front.now ++ rest.now) ≤ 4294967289 }
     ensures written { D.told → OnOk result
-        (Overwrites (gate + 1) (written_record bytes.now) (D.content disk.old) (D.content disk.new)) }
+        (Overwrites (gate + 1) (written_record (front.now ++ rest.now)) (D.content disk.old) (D.content disk.new)) }
     ensures durable { OnOk result (Only (D.content disk.new) (D.may_leave disk.new)) }
     ensures changes { ChangesWithin D.told D.content D.may_leave D.moment D.left_since
-        (gate + 1) (length bytes.now + 5) disk.old disk.new }
+        (gate + 1) (length (front.now ++ rest.now) + 5) disk.old disk.new }
     ensures size { D.size disk.new ≡ D.size disk.old }
     ensures cause { HasCause (D.faults disk.old) (D.faults disk.new) result }
 {
-    write_record(disk, gate, bytes)?;
+    write_record(disk, gate, front, rest)?;
     disk.sync()
 }
 
@@ -273,18 +324,36 @@ fn open_gate<D: Disk>(disk: &mut D, gate: u64) -> Result<(), Failed>
 }
 
 /// Writes a record behind its gate, and the next gate, closed.
-fn write_record<D: Disk>(disk: &mut D, gate: u64, bytes: &[u8]) -> Result<(), Failed>
-    requires fits { gate + (length bytes.now + 6) ≤ D.size disk.old }
-    requires small { length bytes.now ≤ 4294967289 }
+fn write_record<D: Disk>(disk: &mut D, gate: u64, front: &[u8], rest: &[u8]) -> Result<(), Failed>
+    requires fits { gate + (length (front.now ++ rest.now) + 6) ≤ D.size disk.old }
+    requires small { length (front.now ++ rest.now) ≤ 4294967289 }
     ensures written { D.told → OnOk result
-        (Overwrites (gate + 1) (written_record bytes.now) (D.content disk.old) (D.content disk.new)) }
+        (Overwrites (gate + 1) (written_record (front.now ++ rest.now)) (D.content disk.old) (D.content disk.new)) }
     ensures changes { ChangesWithin D.told D.content D.may_leave D.moment D.left_since
-        (gate + 1) (length bytes.now + 5) disk.old disk.new }
+        (gate + 1) (length (front.now ++ rest.now) + 5) disk.old disk.new }
     ensures size { D.size disk.new ≡ D.size disk.old }
     ensures cause { HasCause (D.faults disk.old) (D.faults disk.new) result }
 {
-    let length = bytes.len() as u32;
+    let length = length_of(front, rest);
     disk.write_at(gate + 1, &length.to_be_bytes())?;
-    disk.write_at(gate + 5, bytes)?;
+    write_bytes(disk, gate + 5, front, rest)?;
     disk.write_at(gate + 5 + length as u64, &[CLOSED])
+}
+
+/// Writes the bytes of a record, its first ones and those behind them. Where there are none behind them, that is one
+/// write.
+fn write_bytes<D: Disk>(disk: &mut D, at: u64, front: &[u8], rest: &[u8]) -> Result<(), Failed>
+    requires { at + length (front.now ++ rest.now) ≤ D.size disk.old }
+    ensures written { D.told → OnOk result
+        (Overwrites at (front.now ++ rest.now) (D.content disk.old) (D.content disk.new)) }
+    ensures changes { ChangesWithin D.told D.content D.may_leave D.moment D.left_since
+        at (length (front.now ++ rest.now)) disk.old disk.new }
+    ensures size { D.size disk.new ≡ D.size disk.old }
+    ensures cause { HasCause (D.faults disk.old) (D.faults disk.new) result }
+{
+    disk.write_at(at, front)?;
+    if rest.is_empty() {
+        return Ok(());
+    }
+    disk.write_at(at + front.len() as u64, rest)
 }

@@ -1,8 +1,8 @@
-use Rattle.std.proofs.Common.{◌≡◌, ◌+◌, ◌-◌, List, ℕ, length, ap, sym, ◌∙◌, subst, arith}
+use Rattle.std.proofs.Common.{◌≡◌, ◌+◌, ◌-◌, ◌++◌, List, ℕ, ap, sym, ◌∙◌, subst, arith}
 use Rattle.ckr_outside.specs.RangeCalls.{within_wider, within_twice}
 use Rattle.ckr_book.specs.Book.{OpenBook, IsOpenOn, records_of}
 use Rattle.ckr_book.proofs.Steps.{staged_since, either_since, the_list, the_gate, now_listed, now_open}
-use Rattle.ckr_book.proofs.book.Book.append.Goals as goal
+use Rattle.ckr_book.proofs.book.Book.append_parts.Goals as goal
 
 pub returns-in_err-stage-clause-any_moment : goal.returns-in_err-stage-clause-any_moment
 returns-in_err-stage-clause-any_moment g c =
@@ -11,9 +11,9 @@ returns-in_err-stage-clause-any_moment g c =
     let disk = c.args.disk.now in
     let book = c.args.self.now in
     let sized = λ (image : List ℕ) (is : d.may_leave disk image). laws.sized disk (d.moment disk) image (laws.counts_now disk (d.moment disk) image (omega arith) is) in
-    the_list d.told d.content d.may_leave d.size book disk c.args.bytes.now c.requires.inside (omega arith) (omega arith) c.requires.stands sized
+    the_list d.told d.content d.may_leave d.size book disk (c.args.front.now ++ c.args.rest.now) c.requires.inside (omega arith) (omega arith) c.requires.stands sized
     d.moment d.left_since c.gate-gate.result c.gate-gate.ensures.place c.stage.new.disk
-    (staged_since d.told d.content d.may_leave d.size book disk c.args.bytes.now c.requires.inside (omega arith) (omega arith) c.requires.stands sized
+    (staged_since d.told d.content d.may_leave d.size book disk (c.args.front.now ++ c.args.rest.now) c.requires.inside (omega arith) (omega arith) c.requires.stands sized
     d.moment d.left_since c.gate-gate.result c.gate-gate.ensures.place c.stage.new.disk c.stage.ensures.changes.since)
 
 pub returns-in_err-stage-clause-opens_again : goal.returns-in_err-stage-clause-opens_again
@@ -23,9 +23,9 @@ returns-in_err-stage-clause-opens_again g c =
     let disk = c.args.disk.now in
     let book = c.args.self.now in
     let sized = λ (image : List ℕ) (is : d.may_leave disk image). laws.sized disk (d.moment disk) image (laws.counts_now disk (d.moment disk) image (omega arith) is) in
-    the_gate d.told d.content d.may_leave d.size book disk c.args.bytes.now c.requires.inside (omega arith) (omega arith) c.requires.stands sized
+    the_gate d.told d.content d.may_leave d.size book disk (c.args.front.now ++ c.args.rest.now) c.requires.inside (omega arith) (omega arith) c.requires.stands sized
     d.moment d.left_since c.gate-gate.result c.gate-gate.ensures.place c.stage.new.disk
-    (staged_since d.told d.content d.may_leave d.size book disk c.args.bytes.now c.requires.inside (omega arith) (omega arith) c.requires.stands sized
+    (staged_since d.told d.content d.may_leave d.size book disk (c.args.front.now ++ c.args.rest.now) c.requires.inside (omega arith) (omega arith) c.requires.stands sized
     d.moment d.left_since c.gate-gate.result c.gate-gate.ensures.place c.stage.new.disk c.stage.ensures.changes.since)
 
 pub returns-in_err-stage-clause-changes : goal.returns-in_err-stage-clause-changes
@@ -41,9 +41,9 @@ returns-in_err-open_gate-clause-any_moment g c =
     let disk = c.args.disk.now in
     let book = c.args.self.now in
     let sized = λ (image : List ℕ) (is : d.may_leave disk image). laws.sized disk (d.moment disk) image (laws.counts_now disk (d.moment disk) image (omega arith) is) in
-    the_list d.told d.content d.may_leave d.size book disk c.args.bytes.now c.requires.inside (omega arith) (omega arith) c.requires.stands sized
+    the_list d.told d.content d.may_leave d.size book disk (c.args.front.now ++ c.args.rest.now) c.requires.inside (omega arith) (omega arith) c.requires.stands sized
     d.moment d.left_since c.gate-gate.result c.gate-gate.ensures.place c.open_gate.new.disk
-    (either_since d.told d.content d.may_leave d.size book disk c.args.bytes.now c.requires.inside (omega arith) (omega arith) c.requires.stands sized
+    (either_since d.told d.content d.may_leave d.size book disk (c.args.front.now ++ c.args.rest.now) c.requires.inside (omega arith) (omega arith) c.requires.stands sized
     d.moment d.left_since c.gate-gate.result c.gate-gate.ensures.place c.stage.new.disk c.stage.ensures.changes.since c.in_ok-stage.ensures.written c.in_ok-stage.ensures.durable
     (laws.reads_an_image disk) (laws.tells c.stage.new.disk) c.open_gate.new.disk c.open_gate.ensures.changes.since)
 
@@ -54,9 +54,9 @@ returns-in_err-open_gate-clause-opens_again g c =
     let disk = c.args.disk.now in
     let book = c.args.self.now in
     let sized = λ (image : List ℕ) (is : d.may_leave disk image). laws.sized disk (d.moment disk) image (laws.counts_now disk (d.moment disk) image (omega arith) is) in
-    the_gate d.told d.content d.may_leave d.size book disk c.args.bytes.now c.requires.inside (omega arith) (omega arith) c.requires.stands sized
+    the_gate d.told d.content d.may_leave d.size book disk (c.args.front.now ++ c.args.rest.now) c.requires.inside (omega arith) (omega arith) c.requires.stands sized
     d.moment d.left_since c.gate-gate.result c.gate-gate.ensures.place c.open_gate.new.disk
-    (either_since d.told d.content d.may_leave d.size book disk c.args.bytes.now c.requires.inside (omega arith) (omega arith) c.requires.stands sized
+    (either_since d.told d.content d.may_leave d.size book disk (c.args.front.now ++ c.args.rest.now) c.requires.inside (omega arith) (omega arith) c.requires.stands sized
     d.moment d.left_since c.gate-gate.result c.gate-gate.ensures.place c.stage.new.disk c.stage.ensures.changes.since c.in_ok-stage.ensures.written c.in_ok-stage.ensures.durable
     (laws.reads_an_image disk) (laws.tells c.stage.new.disk) c.open_gate.new.disk c.open_gate.ensures.changes.since)
 
@@ -76,9 +76,9 @@ returns-clause-any_moment g c =
     let disk = c.args.disk.now in
     let book = c.args.self.now in
     let sized = λ (image : List ℕ) (is : d.may_leave disk image). laws.sized disk (d.moment disk) image (laws.counts_now disk (d.moment disk) image (omega arith) is) in
-    the_list d.told d.content d.may_leave d.size book disk c.args.bytes.now c.requires.inside (omega arith) (omega arith) c.requires.stands sized
+    the_list d.told d.content d.may_leave d.size book disk (c.args.front.now ++ c.args.rest.now) c.requires.inside (omega arith) (omega arith) c.requires.stands sized
     d.moment d.left_since c.gate-gate.result c.gate-gate.ensures.place c.open_gate.new.disk
-    (either_since d.told d.content d.may_leave d.size book disk c.args.bytes.now c.requires.inside (omega arith) (omega arith) c.requires.stands sized
+    (either_since d.told d.content d.may_leave d.size book disk (c.args.front.now ++ c.args.rest.now) c.requires.inside (omega arith) (omega arith) c.requires.stands sized
     d.moment d.left_since c.gate-gate.result c.gate-gate.ensures.place c.stage.new.disk c.stage.ensures.changes.since c.in_ok-stage.ensures.written c.in_ok-stage.ensures.durable
     (laws.reads_an_image disk) (laws.tells c.stage.new.disk) c.open_gate.new.disk c.open_gate.ensures.changes.since)
 
@@ -89,9 +89,9 @@ returns-clause-opens_again g c =
     let disk = c.args.disk.now in
     let book = c.args.self.now in
     let sized = λ (image : List ℕ) (is : d.may_leave disk image). laws.sized disk (d.moment disk) image (laws.counts_now disk (d.moment disk) image (omega arith) is) in
-    the_gate d.told d.content d.may_leave d.size book disk c.args.bytes.now c.requires.inside (omega arith) (omega arith) c.requires.stands sized
+    the_gate d.told d.content d.may_leave d.size book disk (c.args.front.now ++ c.args.rest.now) c.requires.inside (omega arith) (omega arith) c.requires.stands sized
     d.moment d.left_since c.gate-gate.result c.gate-gate.ensures.place c.open_gate.new.disk
-    (either_since d.told d.content d.may_leave d.size book disk c.args.bytes.now c.requires.inside (omega arith) (omega arith) c.requires.stands sized
+    (either_since d.told d.content d.may_leave d.size book disk (c.args.front.now ++ c.args.rest.now) c.requires.inside (omega arith) (omega arith) c.requires.stands sized
     d.moment d.left_since c.gate-gate.result c.gate-gate.ensures.place c.stage.new.disk c.stage.ensures.changes.since c.in_ok-stage.ensures.written c.in_ok-stage.ensures.durable
     (laws.reads_an_image disk) (laws.tells c.stage.new.disk) c.open_gate.new.disk c.open_gate.ensures.changes.since)
 
@@ -112,7 +112,7 @@ returns-clause-appended g c told =
     let book = c.args.self.now in
     let sized = λ (image : List ℕ) (is : d.may_leave disk image). laws.sized disk (d.moment disk) image (laws.counts_now disk (d.moment disk) image (omega arith) is) in
     ap (λ (b : OpenBook). records_of b (d.content c.open_gate.new.disk)) c.go_on.ensures
-    ∙ now_listed d.told d.content d.may_leave d.size book disk c.args.bytes.now c.requires.inside (omega arith) (omega arith) c.requires.stands sized
+    ∙ now_listed d.told d.content d.may_leave d.size book disk (c.args.front.now ++ c.args.rest.now) c.requires.inside (omega arith) (omega arith) c.requires.stands sized
     d.moment d.left_since c.gate-gate.result c.gate-gate.ensures.place c.stage.new.disk c.stage.ensures.changes.since c.in_ok-stage.ensures.written c.in_ok-stage.ensures.durable (laws.reads_an_image disk)
     c.open_gate.new.disk told (c.open_gate.ensures.changes.reads told) (c.in_ok-open_gate.ensures.written told)
 
@@ -127,12 +127,12 @@ returns-clause-stands g c =
     let later = c.go_on.new.self in
     let size : later.size ≡ book.size = ap (λ (b : OpenBook). b.size) c.go_on.ensures in
     let start : later.start ≡ book.start = ap (λ (b : OpenBook). b.start) c.go_on.ensures in
-    let end : later.end ≡ book.end + (length c.args.bytes.now + 6 - 1) = ap (λ (b : OpenBook). b.end) c.go_on.ensures in
+    let end : later.end ≡ book.end + (c.length_of-need.result + 6 - 1) = ap (λ (b : OpenBook). b.end) c.go_on.ensures in
     record {
       open_on = λ image now.
           let told = laws.tells new image now in
           subst (λ (l : List ℕ). IsOpenOn later l) (sym (c.in_ok-open_gate.ensures.durable image now))
-          (now_open d.told d.content d.may_leave d.size book disk c.args.bytes.now c.requires.inside (omega arith) (omega arith) c.requires.stands sized
+          (now_open d.told d.content d.may_leave d.size book disk (c.args.front.now ++ c.args.rest.now) c.requires.inside (omega arith) (omega arith) c.requires.stands sized
           d.moment d.left_since c.gate-gate.result c.gate-gate.ensures.place c.stage.new.disk c.stage.ensures.changes.since c.in_ok-stage.ensures.written c.in_ok-stage.ensures.durable (laws.reads_an_image disk)
           new told (c.open_gate.ensures.changes.reads told) (c.in_ok-open_gate.ensures.written told) later start size (omega arith));
       list = λ image now. ap (λ (l : List ℕ). records_of later l) (c.in_ok-open_gate.ensures.durable image now);
