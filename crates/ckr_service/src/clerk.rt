@@ -44,6 +44,7 @@ pub struct Clerk<D: Disk, O: Operator> {
 }
 
 /// The name of the job of a number, where there is one, by its place among the lines.
+#[tactic(auto, using(crate::proofs::JobNames::name_there, crate::proofs::JobNames::name_missing, crate::proofs::JobNames::name_of_none))]
 fn name_in(number: u32, runs: &[Run]) -> Option<&Name8>
     requires { AreNumberedLines runs.now }
     ensures { unwrap_or (option_copied result) [] ≡ name_in number runs.now }
