@@ -1,9 +1,9 @@
 -- What an event needs before it is told, what the operator's answer comes to before anything is written, and what a unit comes to before it is done.
-use Rattle.std.specs.Prelude.{◌≡◌, ◌≤◌, ◌<◌, ◌⊎◌, ℕ, List, [], ◌∷◌, length, find, Bool, true, false, Option, Some, None, Vec}
+use Rattle.std.specs.Prelude.{◌≡◌, ◌≤◌, ◌<◌, ◌⊎◌, ℕ, List, [], ◌∷◌, length, find, Bool, true, false, Option, Some, None}
 use Rattle.ckr_book.specs.Book.{room_of}
 use Rattle.ckr_console.specs.declared.question.Answer.{Answer}
 use Rattle.ckr_events.specs.declared.event.Event.{Event}
-use Rattle.ckr_events.specs.Event.{IsSmall, spelling}
+use Rattle.ckr_events.specs.Event.{IsCounted, spelling}
 use Rattle.ckr_desk_memory.specs.Model.RewriteCounts.{may_count}
 use Rattle.ckr_jcl.specs.declared.deck.Job.{Job}
 use Rattle.ckr_desk_memory.specs.EventChanges.{is_of_run}
@@ -36,14 +36,9 @@ use Rattle.ckr_desk.specs.Units.{IsAt, IsToldOf}
 
 -- ---- an event
 
--- the bytes of one that submits a deck are spelled; another one is spelled when it is told
-abbrev pub IsSpelledIn : {A : Type 0} → Event → Option (Vec ℕ A) → Type 0
-IsSpelledIn event None = IsSmall event
-IsSpelledIn event (Some bytes) = bytes.items ≡ spelling event
-
--- the book has room for its bytes, its rewrites can be counted, and there is memory for the jobs to go on by it
+-- four bytes count its cards, if it has a deck, and its bytes; the book has room for these, its rewrites can be counted, and there is memory for the jobs to go on by it
 pub record IsReady {D : Type 0} (event : Event) (deck : Option Job) (desk : DeskView D) (ready : Ready) : Type 0 where
-  pub spelled : IsSpelledIn event ready.spelled
+  pub counted : IsCounted event
   pub small : length (spelling event) ≤ 4294967289
   pub fits : need_of event ≤ room_of desk.store.book
   pub counts : may_count event desk.jobs.tables.desk.sets ≡ true

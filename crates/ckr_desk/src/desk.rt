@@ -130,10 +130,10 @@ impl<D: Disk, O: Operator> Desk<D, O> {
         ensures cause { IfErr result (NotEntered D.faults self.old self.new) }
     {
         let _layout = self.store.layout();
-        let Ready { spelled, prepared } = ready;
+        let Ready { prepared } = ready;
         self.store.sync()?;
-        let bytes = self.event_bytes.of(event, &spelled);
-        self.store.append(bytes)?;
+        let (front, rest) = self.event_bytes.of(event);
+        self.store.append(front, rest)?;
         self.jobs.keep(event, deck, prepared);
         Ok(())
     }

@@ -10,11 +10,10 @@ ghost use Rattle.ckr_desk_refines.specs.Moves.{event_in};
 ghost use Rattle.ckr_points_tables.specs.Invariant.{MaySubmit};
 ghost use Rattle.ckr_desk_turn.specs.Inquiries.{decide, is_ask};
 ghost use Rattle.ckr_desk.specs.Calls.{HasSameJobs};
-ghost use Rattle.ckr_desk.specs.Preparation.{IsPreparedPlan, IsReady, IsReadyFor, IsSpelledIn, NotFit, NotReady, NotReadyFor, NotSettled};
+ghost use Rattle.ckr_desk.specs.Preparation.{IsPreparedPlan, IsReady, IsReadyFor, NotFit, NotReady, NotReadyFor, NotSettled};
 ghost use Rattle.ckr_desk.specs.State.{need_of};
 ghost use Rattle.ckr_desk.specs.Turn.{AnswerStands};
 
-use crate::event_bytes::spelled_deck;
 use crate::{Desk, DeskError};
 use ckr_console::Operator;
 use ckr_desk_memory::{Prepared, decided, may_count};
@@ -23,19 +22,18 @@ use ckr_events::Event;
 use ckr_jcl::Job;
 use ckr_outside::Disk;
 
-/// An event that may be told: its bytes, where it submits a deck, and the memory for the jobs to go on by it.
+/// An event that may be told: the memory for the jobs to go on by it.
 #[derive(Drop)]
 pub(crate) struct Ready {
-    pub spelled: Option<Vec<u8>>,
     pub prepared: Prepared,
 }
 
 impl<D: Disk, O: Operator> Desk<D, O> {
-    /// Makes an event ready to be told: spells it, and takes the memory for it. A deck is given exactly where the event is Submitted and its
-    /// cards are a deck, and it is that deck. What the jobs are and the disk stay as they are.
+    /// Makes an event ready to be told: looks for room in the book, and takes the memory for it. A deck is given exactly where the event is
+    /// Submitted and its cards are a deck, and it is that deck. What the jobs are and the disk stay as they are.
     ///
     /// `NoMemory`: only where the event needs some, or a count of rewrites is at its end. `BookFull`: exactly where the event needs more than the
-    /// room of the book, and there was memory to spell it (this project's profile).
+    /// room of the book, and no count of rewrites is at its end (this project's profile).
     pub(crate) fn make_ready(
         &mut self,
         event: &Event,
@@ -54,17 +52,16 @@ impl<D: Disk, O: Operator> Desk<D, O> {
         if !may_count(self.jobs.tables(), event) {
             return Err(DeskError::NoMemory);
         }
-        let spelled = spelled_deck(self.alloc, event)?;
-        self.fit(event, &spelled)?;
+        self.fit(event)?;
         let prepared = self.jobs.prepare(event, deck)?;
-        Ok(Ready { spelled, prepared })
+        Ok(Ready { prepared })
     }
 
     /// Whether the book has room for an event. What the jobs are and the disk stay as they are.
     ///
     /// `BookFull`: exactly where the event needs more than the room of the book.
-    fn fit(&mut self, event: &Event, spelled: &Option<Vec<u8>>) -> Result<(), DeskError>
-        requires spelled { IsSpelledIn event.now spelled.now }
+    fn fit(&mut self, event: &Event) -> Result<(), DeskError>
+        requires counted { IsCounted event.now }
         requires small { length (spelling event.now) ≤ 4294967289 }
         ensures fits { OnOk result (need_of event.now ≤ room_of self.new.store.book) }
         ensures jobs { self.new.jobs ≡ self.old.jobs }
@@ -72,7 +69,8 @@ impl<D: Disk, O: Operator> Desk<D, O> {
         ensures machine_room { self.new.machine_room ≡ self.old.machine_room }
         ensures cause { IfErr result (NotFit (Some event.now) self.old self.new) }
     {
-        let need = self.event_bytes.of(event, spelled).len() as u32 + 6;
+        let (front, rest) = self.event_bytes.of(event);
+        let need = front.len() as u32 + rest.len() as u32 + 6;
         let room = self.store.room();
         if room < need {
             return Err(DeskError::BookFull { need, room });
@@ -111,11 +109,8 @@ impl<D: Disk, O: Operator> Desk<D, O> {
     {
         match plan {
             Plan::Tell { event, .. } => {
-                self.fit(event, &None)?;
-                Ok(Some(Ready {
-                    spelled: None,
-                    prepared,
-                }))
+                self.fit(event)?;
+                Ok(Some(Ready { prepared }))
             }
             _ => Ok(None),
         }

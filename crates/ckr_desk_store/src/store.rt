@@ -99,39 +99,39 @@ impl<D: Disk> Store<D> {
         disk
     }
 
-    /// Adds an event behind the others by its bytes, for good.
+    /// Adds an event behind the others by its bytes, for good. They are given in two parts, one behind the other.
     ///
     /// `BookFull`: exactly where its bytes and 6 more exceed the room of the book. Nothing has changed then. `DiskFault`: only where the
     /// disk's faults rose in this call; then the store has stopped. `Stopped`: exactly where it had stopped before.
-    pub fn append(&mut self, event: &[u8]) -> Result<(), StoreError>
-        requires small { length event.now ≤ 4294967289 }
+    pub fn append(&mut self, front: &[u8], rest: &[u8]) -> Result<(), StoreError>
+        requires small { length (front.now ++ rest.now) ≤ 4294967289 }
 
         ensures appended { D.told → OnOk result (event_records self.old.layout (D.content self.new.disk)
-            ≡ event_records self.old.layout (D.content self.old.disk) ++ event.now ∷ []) }
+            ≡ event_records self.old.layout (D.content self.old.disk) ++ (front.now ++ rest.now) ∷ []) }
         ensures settled { OnOk result (Only (D.content self.new.disk) (D.may_leave self.new.disk)) }
         ensures kept { OnOk result (self.new ≡ record self.old { disk = self.new.disk; book = self.new.book }) }
         ensures place { SamePlace self.old.book self.new.book }
-        ensures room { OnOk result (room_of self.new.book + (length event.now + 5) ≡ room_of self.old.book) }
+        ensures room { OnOk result (room_of self.new.book + (length (front.now ++ rest.now) + 5) ≡ room_of self.old.book) }
 
         // A stop at any moment leaves a disk that opens, with the event or without it, and changes nothing else.
         ensures any_moment { self.old.fault ≡ None → EachSince D.moment D.left_since self.old.disk self.new.disk
             (Opens self.old.layout (D.size self.old.disk)
-            (IsBeforeOrAfter (event_records self.old.layout (D.content self.old.disk)) event.now)) }
+            (IsBeforeOrAfter (event_records self.old.layout (D.content self.old.disk)) (front.now ++ rest.now))) }
         ensures changes { ChangesWithin D.told D.content D.may_leave D.moment D.left_since
             512 self.old.layout.book self.old.disk self.new.disk }
         ensures size { D.size self.new.disk ≡ D.size self.old.disk }
         ensures faults { D.faults self.old.disk ≤ D.faults self.new.disk }
 
         ensures stopped { IfSome self.old.fault (λ fault. (result ≡ Err (StoreError.Stopped fault)) × (self.new ≡ self.old)) }
-        ensures full { self.old.fault ≡ None → room_of self.old.book < length event.now + 6
-            → result ≡ Err (StoreError.BookFull (length event.now + 6) (room_of self.old.book)) }
-        ensures cause { IfErr result (AppendCause D.faults (length event.now + 6) self.old self.new) }
+        ensures full { self.old.fault ≡ None → room_of self.old.book < length (front.now ++ rest.now) + 6
+            → result ≡ Err (StoreError.BookFull (length (front.now ++ rest.now) + 6) (room_of self.old.book)) }
+        ensures cause { IfErr result (AppendCause D.faults (length (front.now ++ rest.now) + 6) self.old self.new) }
     {
         if let Some(fault) = self.fault {
             return Err(StoreError::Stopped { fault });
         }
         self.synced = false;
-        match self.book.append(&mut self.disk, event) {
+        match self.book.append_parts(&mut self.disk, front, rest) {
             Ok(()) => {
                 self.synced = true;
                 Ok(())

@@ -8,8 +8,9 @@ use std::alloc::Global;
 use std::process::Abort;
 use std::test::Fail;
 
-/// Opens a book of 64 bytes from byte 8 on, and appends three records, of 3, 0 and 5 bytes. Opening makes two calls,
-/// and each append six: the length, the bytes, the next gate, a sync, the gate and a sync.
+/// Opens a book of 64 bytes from byte 8 on, and appends three records, of 3, 0 and 5 bytes, the third in two parts. Opening
+/// makes two calls, and each append six: the length, the bytes, the next gate, a sync, the gate and a sync. The third makes
+/// one more, for the second part of its bytes.
 fn append_three<D: Disk>(disk: &mut D) -> Result<(), BookError>
     requires { 72 ≤ D.size disk.old }
     ensures { D.size disk.new ≡ D.size disk.old }
@@ -17,7 +18,7 @@ fn append_three<D: Disk>(disk: &mut D) -> Result<(), BookError>
     let mut book = Book::open_on(disk, 8, 64)?;
     book.append(disk, b"ABC")?;
     book.append(disk, b"")?;
-    book.append(disk, b"THIRD")
+    book.append_parts(disk, b"TH", b"IRD")
 }
 
 /// The disk after a stop at that call.
@@ -45,14 +46,15 @@ static PICKS: [Pick; 5] = [
 /// A call of the third append, and the room that each pick leaves of a stop there.
 type Stop = (u64, [u32; 5]);
 
-static STOPS: [Stop; 7] = [
+static STOPS: [Stop; 8] = [
     (14, [WITHOUT, WITHOUT, WITHOUT, WITHOUT, WITHOUT]),
     (15, [WITHOUT, WITHOUT, WITHOUT, WITHOUT, WITHOUT]),
     (16, [WITHOUT, WITHOUT, WITHOUT, WITHOUT, WITHOUT]),
     (17, [WITHOUT, WITHOUT, WITHOUT, WITHOUT, WITHOUT]),
-    (18, [WITHOUT, WITHOUT, WITHOUT, WITH, WITHOUT]),
-    (19, [WITH, WITHOUT, WITHOUT, WITH, WITHOUT]),
-    (20, [WITH, WITH, WITH, WITH, WITH]),
+    (18, [WITHOUT, WITHOUT, WITHOUT, WITHOUT, WITHOUT]),
+    (19, [WITHOUT, WITHOUT, WITHOUT, WITH, WITHOUT]),
+    (20, [WITH, WITHOUT, WITHOUT, WITH, WITHOUT]),
+    (21, [WITH, WITH, WITH, WITH, WITH]),
 ];
 
 /// The book has this room, and the third record where that is what it has with it.

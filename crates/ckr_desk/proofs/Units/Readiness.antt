@@ -109,7 +109,7 @@ module _ {D : Type 0} (old mid : DeskView D) (tables : mid.jobs.tables ≡ old.j
 
   still-ready : (event : Event) → is_unit_event event ≡ true → (ready : Ready) → IsReady event None old ready → IsReady event None mid ready
   still-ready event its ready is = record {
-    spelled = is.spelled;
+    counted = is.counted;
     small = is.small;
     fits = subst (λ n. need_of event ≤ n) (sym book) is.fits;
     counts = ap (λ (t : RoomyTables). may_count event t.desk.sets) tables ∙ is.counts;

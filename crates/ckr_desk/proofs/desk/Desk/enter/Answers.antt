@@ -51,7 +51,7 @@ returns-in_err-append-clause-left g c =
     (appended-store d.told d.content d.may_leave d.moment d.left_since d.size c.args.event.now (option_map rc_value c.args.deck) (record { store = old.store; jobs = old.jobs; machine_room = old.machine_room }) mid c.append.new.self
     c.in_ok-sync.ensures.kept (and_from _ _ follows counts) c.layout-layout.ensures.sound.laid
     (c.sync.ensures.any_moment is_open) c.sync.ensures.only_reads c.sync.ensures.size c.in_ok-sync.ensures.settled
-    (subst (λ bytes. EachSince d.moment d.left_since mid.disk c.append.new.self.disk (Opens mid.layout (d.size mid.disk) (IsBeforeOrAfter (event_records mid.layout (d.content mid.disk)) bytes))) c.of-bytes.ensures
+    (subst (λ bytes. EachSince d.moment d.left_since mid.disk c.append.new.self.disk (Opens mid.layout (d.size mid.disk) (IsBeforeOrAfter (event_records mid.layout (d.content mid.disk)) bytes))) c.of.ensures
     (c.append.ensures.any_moment (ap (λ s. s.fault) c.in_ok-sync.ensures.kept ∙ is_open))) c.append.ensures.changes)
 
 pub returns-clause-left : goal.returns-clause-left
@@ -66,7 +66,7 @@ returns-clause-left g c =
     (appended-store d.told d.content d.may_leave d.moment d.left_since d.size c.args.event.now (option_map rc_value c.args.deck) (record { store = old.store; jobs = old.jobs; machine_room = old.machine_room }) mid c.append.new.self
     c.in_ok-sync.ensures.kept (and_from _ _ follows counts) c.layout-layout.ensures.sound.laid
     (c.sync.ensures.any_moment is_open) c.sync.ensures.only_reads c.sync.ensures.size c.in_ok-sync.ensures.settled
-    (subst (λ bytes. EachSince d.moment d.left_since mid.disk c.append.new.self.disk (Opens mid.layout (d.size mid.disk) (IsBeforeOrAfter (event_records mid.layout (d.content mid.disk)) bytes))) c.of-bytes.ensures
+    (subst (λ bytes. EachSince d.moment d.left_since mid.disk c.append.new.self.disk (Opens mid.layout (d.size mid.disk) (IsBeforeOrAfter (event_records mid.layout (d.content mid.disk)) bytes))) c.of.ensures
     (c.append.ensures.any_moment (ap (λ s. s.fault) c.in_ok-sync.ensures.kept ∙ is_open))) c.append.ensures.changes)
 
 pub invariant_of-self : goal.invariant_of-self
@@ -124,6 +124,6 @@ returns-in_err-append-clause-cause g c =
     rw (← c.self.view_is)
     (subst (λ r. IfErr r (NotEntered d.faults old (record { store = c.append.new.self; jobs = c.self.inside.jobs; machine_room = c.self.inside.machine_room }))) (sym (err-is c.from_residual-in_err-append.result (of_store error) c.from_residual-in_err-append.ensures.1))
     (unappended d.faults old c.sync.new.self c.append.new.self _ error (ap (λ s. s.store.fault) c.self.view_is ∙ c.requires.is_open) c.in_ok-sync.ensures.kept c.sync.ensures.faults
-    (subst (λ bytes. length bytes + 6 ≤ room_of c.self.inside.store.book) (sym c.of-bytes.ensures)
+    (subst (λ bytes. length bytes + 6 ≤ room_of c.self.inside.store.book) (sym c.of.ensures)
     (subst (λ (s : DeskView g.row.D.Denot). length (spelling c.args.event.now) + 6 ≤ room_of s.store.book) (sym c.self.view_is) c.requires.ready.fits))
     c.in_err-append.ensures.cause))

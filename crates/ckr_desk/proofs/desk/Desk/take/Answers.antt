@@ -23,7 +23,7 @@ use Rattle.ckr_desk.proofs.desk.Desk.take.Goals as goal
 -- what is ready stays so while the entry is written
 ready-same : {D : Type 0} (event : Event) (old mid : DeskView D) (ready : Ready) → mid.jobs ≡ old.jobs → room_of mid.store.book ≡ room_of old.store.book → IsReady event None old ready → IsReady event None mid ready
 ready-same event old mid ready jobs room is = record {
-  spelled = is.spelled;
+  counted = is.counted;
   small = is.small;
   fits = subst (λ n. need_of event ≤ n) (sym room) is.fits;
   counts = ap (λ (j : JobsView). may_count event j.tables.desk.sets) jobs ∙ is.counts;
