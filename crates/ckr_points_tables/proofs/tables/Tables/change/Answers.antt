@@ -9,7 +9,6 @@ use Rattle.ckr_points_tables.proofs.EndedRuns.{ended-set}
 use Rattle.ckr_points_tables.proofs.Events.{placed_at}
 use Rattle.ckr_points_tables.proofs.Calls.{flags_ok, flags_told, job_ok, read-back, read-twice, inside_lines, inside_tables, inside_writings, fits_ok, may_ok, desk_ok, kept_ok}
 use Rattle.ckr_points_tables.proofs.tables.Tables.change.Goals as goal
-use Rattle.ckr_points_tables.proofs.tables.Tables.change.Goals.{After-count_ended-self-inside}
 
 pub overflow_sub-place : goal.overflow_sub-place
 overflow_sub-place c =
@@ -74,7 +73,7 @@ count_ended-self-inside-requires c =
     (ended-set c.self.inside.ended (c.job-number.result - 1) c.self.inside.lines.items _ c.min.result c.min.ensures c.self.invariant.ended)
 
 -- the run goes on by the event as the tables do
-run-goes : (c : After-count_ended-self-inside) → (
+run-goes : (c : goal.After-self-4-1) → (
     going c.change_run.new.line (facts_of c.change_run.new.table) c.change_run.new.library.sets
     ≡ changed holding_kit (earlier_for c.args.event.now (points_in c.self.inside.tables.items) c.index_mut.result.now.number (facts_of c.index_mut-2.result.now)) c.args.event.now
     (going c.index_mut.result.now (facts_of c.index_mut-2.result.now) c.self.inside.library.sets))
