@@ -131,8 +131,8 @@ fn two_lengths(first: u32, second: u32) -> ArrayVec<u32, 16> {
 }
 
 /// What a step makes: its output, and a data set for its entries where one is given.
-fn made_by(output: u32, entries: Option<u32>) -> Result<MadeSets, NoMemory> {
-    let mut items = MadeSets::new(Global);
+fn made_by(alloc: Global, output: u32, entries: Option<u32>) -> Result<MadeSets, NoMemory> {
+    let mut items = MadeSets::new(alloc);
     items.push(made(2, output, 10))?;
     if let Some(start) = entries {
         items.push(made(3, start, 4))?;
@@ -141,8 +141,8 @@ fn made_by(output: u32, entries: Option<u32>) -> Result<MadeSets, NoMemory> {
 }
 
 /// What a step makes, by its DDs: the number of the DD, the first byte on the volume, and the records.
-fn all_made(pieces: &[(u8, u32, u32)]) -> Result<MadeSets, NoMemory> {
-    let mut items = MadeSets::new(Global);
+fn all_made(alloc: Global, pieces: &[(u8, u32, u32)]) -> Result<MadeSets, NoMemory> {
+    let mut items = MadeSets::new(alloc);
     for (dd, start, records) in pieces {
         if !items.is_full() {
             items.push(made(*dd, *start, *records))?;
@@ -163,6 +163,7 @@ fn all_lengths(of_outputs: &[u32]) -> ArrayVec<u32, 16> {
 }
 
 fn start_making(
+    alloc: Global,
     tables: &mut Tables,
     layout: &Layout,
     job: u32,
@@ -172,7 +173,7 @@ fn start_making(
     let event = Event::Started {
         job,
         step,
-        made: all_made(pieces)?,
+        made: all_made(alloc, pieces)?,
     };
     tell(tables, layout, &event)
 }
@@ -213,6 +214,7 @@ fn fail(
 }
 
 fn start(
+    alloc: Global,
     tables: &mut Tables,
     layout: &Layout,
     job: u32,
@@ -222,7 +224,7 @@ fn start(
     let event = Event::Started {
         job,
         step: 1,
-        made: made_by(output, entries)?,
+        made: made_by(alloc, output, entries)?,
     };
     tell(tables, layout, &event)
 }
@@ -332,7 +334,7 @@ pub(crate) fn go_on(
     match told {
         Told::Submitted(lines) => submit(alloc, tables, layout, job, *lines),
         Told::Selected => select(tables, layout, job),
-        Told::Started(output, entries) => start(tables, layout, job, *output, *entries),
+        Told::Started(output, entries) => start(alloc, tables, layout, job, *output, *entries),
         Told::Checkpointed(checkpoint) => keep(tables, layout, job, checkpoint),
         Told::Cancelled => cancel(tables, layout, job),
         Told::Held(first, second) => hold(tables, layout, job, *first, *second),
@@ -344,7 +346,9 @@ pub(crate) fn go_on(
             end_of_step(tables, layout, job, 1, *first, &[*first, *second])
         }
         Told::Ended => end(tables, layout, job),
-        Told::StartedMaking(step, pieces) => start_making(tables, layout, job, *step, *pieces),
+        Told::StartedMaking(step, pieces) => {
+            start_making(alloc, tables, layout, job, *step, *pieces)
+        }
         Told::StepEndedWith(step, writes, lengths) => {
             end_of_step(tables, layout, job, *step, *writes, *lengths)
         }

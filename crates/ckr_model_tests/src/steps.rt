@@ -11,7 +11,8 @@ ghost use Rattle.ckr_steps.specs.Units.{due_of};
 use crate::inputs::parm_of;
 use arrayvec::ArrayVec;
 use ckr_base::{Code, DsName, Name8, NextDue, NoMemory, Rec, Volser};
-use ckr_jcl::{Cards, Conds, Dd, Dds, Disp, Kind, Origin, Role, Status, Step};
+use ckr_cards::{Card, stored_line};
+use ckr_jcl::{CardImage, Cards, Conds, Dd, Dds, Disp, Kind, Origin, Role, Status, Step};
 use ckr_library::{Content, DataSet, Extent, Library, Part, Stamp};
 use ckr_outside::{Disk, MemDisk};
 use ckr_steps::{Files, RecordSource, StepRun, Worked};
@@ -249,11 +250,11 @@ static CASES: [Case; 6] = [
 ];
 
 /// These records as cards of the deck.
-fn cards_of<R: Abort>(rt: &R, alloc: Global, records: &[&[u8]]) -> Result<Cards, NoMemory> {
+fn cards_of(alloc: Global, records: &[&[u8]]) -> Result<Cards, NoMemory> {
     let mut cards = Cards::new(alloc);
     for record in records {
-        assert!(rt; record.len() <= 256);
-        cards.push(Rec::of(record))?;
+        let card = Card::stored(1, &stored_line(*record));
+        cards.push(CardImage::of(&card.bytes))?;
     }
     Ok(cards)
 }
@@ -262,7 +263,7 @@ fn cards_of<R: Abort>(rt: &R, alloc: Global, records: &[&[u8]]) -> Result<Cards,
 fn dd_of<R: Abort>(rt: &R, alloc: Global, text: &[u8], source: &Source) -> Result<Dd, NoMemory> {
     let origin = match source {
         Source::Set(set) => Origin::Named(name(rt, *set)),
-        Source::Deck(records) => Origin::InStream(cards_of(rt, alloc, *records)?),
+        Source::Deck(records) => Origin::InStream(cards_of(alloc, *records)?),
     };
     Ok(Dd {
         name: Name8::read(text).expect(rt, "a name"),
