@@ -1,5 +1,5 @@
 -- The name of a job by the place of its line.
-use Rattle.std.proofs.Common.{◌≡◌, ◌≢◌, ℕ, suc, ◌+◌, ◌-◌, ◌==◌, true, false, List, [], ◌∷◌, Option, Some, None, if◌then◌else◌, refl, sym, ap, ◌∙◌, arith}
+use Rattle.std.proofs.Common.{◌≡◌, ◌≢◌, ℕ, zero, suc, ◌+◌, ◌-◌, ◌==◌, false, List, [], ◌∷◌, Option, Some, None, if◌then◌else◌, refl, sym, ap, ◌∙◌, arith}
 use Rattle.std.specs.Prelude.{slice_get, unwrap_or}
 use Rattle.std.specs.Option.{option_map}
 use Rattle.std.proofs.lemmas.Bool.Decides.{nat_tests}
@@ -15,15 +15,15 @@ abbrev name_at : List Run → ℕ → List ℕ
 name_at lines place = named (slice_get lines place)
 
 -- each line has the number of its place, counted from one on
-AreFrom : ℕ → List Run → Type 0
+abbrev AreFrom : ℕ → List Run → Type 0
 AreFrom first lines = (place : ℕ) (line : Run) → slice_get lines place ≡ Some line → line.number ≡ place + first
 
 name-from : (first place : ℕ) (lines : List Run) → AreFrom first lines → name_in (place + first) lines ≡ name_at lines place
-unfolding AreFrom
 name-from first place [] are = refl
-name-from first zero (line ∷ rest) are = ap (λ test. if test then line.name else name_in first rest) (equal-from line.number first (are zero line refl))
+name-from first zero (line ∷ rest) are =
+    ap (λ test. if test then line.name else name_in (zero + first) rest) (equal-from line.number (zero + first) (are 0 line refl))
 name-from first (suc place) (line ∷ rest) are =
-    ap (λ test. if test then line.name else name_in (suc place + first) rest) (other line.number first place (are zero line refl))
+    ap (λ test. if test then line.name else name_in (suc place + first) rest) (other line.number first place (are 0 line refl))
     ∙ (ap (λ number. name_in number rest) (moved place first) ∙ name-from (suc first) place rest (λ at one is. are (suc at) one is ∙ moved at first))
   where
     other : (number first place : ℕ) → number ≡ 0 + first → (number == suc place + first) ≡ false
@@ -33,10 +33,9 @@ name-from first (suc place) (line ∷ rest) are =
     moved place first = omega arith
 
 none-first : (first : ℕ) (lines : List Run) → AreFrom (suc first) lines → name_in 0 lines ≡ []
-unfolding AreFrom
 none-first first [] are = refl
 none-first first (line ∷ rest) are =
-    ap (λ test. if test then line.name else name_in 0 rest) (other line.number first (are zero line refl))
+    ap (λ test. if test then line.name else name_in 0 rest) (other line.number first (are 0 line refl))
     ∙ none-first (suc first) rest (λ at one is. are (suc at) one is ∙ moved at first)
   where
     other : (number first : ℕ) → number ≡ 0 + suc first → (number == 0) ≡ false

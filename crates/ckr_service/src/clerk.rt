@@ -1,5 +1,5 @@
 //! The requests of a stream, one after another.
-ghost use Rattle.std.specs.Prelude.{◌≡◌, ◌<◌, ◌≤◌, ◌%◌, ◌*◌, ◌||◌, length, [], ◌∷◌, ◌++◌, OnOk, IfErr, IfOk, false, true, unwrap_or};
+ghost use Rattle.std.specs.Prelude.{◌≡◌, ◌<◌, ◌≤◌, ◌%◌, ◌*◌, ◌||◌, length, [], ◌∷◌, ◌++◌, OnOk, IfErr, IfOk, false, slice_get, true, unwrap_or};
 ghost use Rattle.std.specs.Option.{option_copied};
 ghost use Rattle.ckr_outside.specs.Faults.{Rose};
 ghost use Rattle.ckr_desk.specs.Model.Lines.{AreNumberedLines};
@@ -43,8 +43,15 @@ pub struct Clerk<D: Disk, O: Operator> {
     pub tally: Tally,
 }
 
+/// The line at a place, counted from 0.
+fn line_at(runs: &[Run], place: usize) -> Option<&Run>
+    ensures { option_copied result ≡ slice_get runs.now place }
+{
+    runs.get(place)
+}
+
 /// The name of the job of a number, where there is one, by its place among the lines.
-#[tactic(auto, using(crate::proofs::JobNames::name_there, crate::proofs::JobNames::name_missing, crate::proofs::JobNames::name_of_none))]
+#[tactic(auto, using(crate::proofs::JobNames::name_of_none))]
 fn name_in(number: u32, runs: &[Run]) -> Option<&Name8>
     requires { AreNumberedLines runs.now }
     ensures { unwrap_or (option_copied result) [] ≡ name_in number runs.now }
@@ -52,7 +59,7 @@ fn name_in(number: u32, runs: &[Run]) -> Option<&Name8>
     if number == 0 {
         return None;
     }
-    match runs.get(number as usize - 1) {
+    match line_at(runs, number as usize - 1) {
         Some(run) => Some(&run.name),
         None => None,
     }
