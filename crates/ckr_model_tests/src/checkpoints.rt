@@ -144,7 +144,7 @@ fn made_by(alloc: Global, output: u32, entries: Option<u32>) -> Result<MadeSets,
 fn all_made(alloc: Global, pieces: &[(u8, u32, u32)]) -> Result<MadeSets, NoMemory> {
     let mut items = MadeSets::new(alloc);
     for (dd, start, records) in pieces {
-        if !items.is_full() {
+        if items.as_slice().len() < 80 {
             items.push(made(*dd, *start, *records))?;
         }
     }
