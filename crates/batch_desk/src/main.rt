@@ -5,7 +5,7 @@ mod failure;
 
 use crate::failure::{Failure, failure_at};
 use ckr_console::{Answer, Cautious, Operator, Script, Scripted, Scripts, Standing};
-use ckr_outside::{FileDisk, StdSink, StdSource};
+use ckr_outside::{FileDisk, ReadAhead, StdSink, StdSource};
 use ckr_service::{Command, batch_desk, disk_place, read_words};
 use std::alloc::Global;
 use std::fs::{File, OpenOptions};
@@ -82,7 +82,7 @@ fn main(rt: HostRuntime) -> io::Result<ExitCode> {
         &words,
         &mut source,
         &mut sink,
-        FileDisk::new(file),
+        ReadAhead::new(rt.alloc(), FileDisk::new(file)),
         operators,
     );
     if let Some(Failure { of, how }) = failure_at(closed.status, path, is_open) {

@@ -1,2 +1,3 @@
+mod Blocks
 mod DiskCalls
 pub mod Fronts

@@ -1,4 +1,5 @@
 pub mod Adapters
+pub mod Block
 pub mod Changes
 pub mod Disk
 pub mod Faults

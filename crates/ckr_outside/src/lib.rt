@@ -2,6 +2,7 @@
 #![tactic(auto)]
 
 mod adapters;
+mod block;
 mod changes;
 mod disk;
 mod failure;
@@ -10,6 +11,7 @@ mod memory_disk;
 mod memory_sink;
 mod memory_source;
 mod plan;
+mod read_ahead;
 mod sink;
 mod source;
 
@@ -21,5 +23,6 @@ pub use file_disk::FileDisk;
 pub use memory_disk::{CallKind, DiskCall, MemDisk};
 pub use memory_sink::MemSink;
 pub use memory_source::MemSource;
+pub use read_ahead::ReadAhead;
 pub use sink::{Sink, put_all};
 pub use source::{PIECE_BYTES, STREAM_LIMIT, Source, take_piece};
