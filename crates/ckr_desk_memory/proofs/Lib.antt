@@ -1,7 +1,6 @@
 pub use Rattle.ckr_points_follows.proofs.RewriteCounts
 pub mod AcceptedRuns
 pub mod FoundRuns
-mod LineNumbers
 pub mod Plans
 pub mod Points
 pub mod DuePlans

@@ -49,7 +49,7 @@ pub fn encode_front<'a>(event: &'a Event, buf: &mut Vec<u8>) -> &'a [u8]
 
 /// Puts the one spelling of an event, which isn't `Submitted`, behind what stands in the vector. The vector has room
 /// for 4,096 bytes more, and no memory is taken: its capacity doesn't fall.
-pub fn encode_small(event: &Event, buf: &mut Vec<u8>)
+fn encode_small(event: &Event, buf: &mut Vec<u8>)
     requires small { IsSmall event.now }
     requires room { vec_len buf.old + 4096 ≤ vec_capacity buf.old }
     ensures items { buf.new.items ≡ buf.old.items ++ spelling event.now }

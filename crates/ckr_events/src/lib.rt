@@ -12,7 +12,7 @@ mod laws;
 mod made_sets;
 
 pub use decoder::decode;
-pub use encoder::{encode, encode_front, encode_small};
+pub use encoder::{encode, encode_front};
 pub use error::EventError;
 pub use event::{Ending, Event, Made, Piece};
 pub use laws::{what_is_read_is_spelled, what_is_spelled_is_read};

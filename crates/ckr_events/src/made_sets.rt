@@ -1,5 +1,5 @@
 //! The data sets that a step made.
-ghost use Rattle.std.specs.Prelude.{◌≡◌, ◌+◌, ◌≤◌, ◌<◌, ◌==◌, [], ◌∷◌, ◌++◌, OnErr, OnOk, length};
+ghost use Rattle.std.specs.Prelude.{◌≡◌, ◌+◌, ◌≤◌, ◌<◌, [], ◌∷◌, ◌++◌, OnErr, OnOk, length};
 
 use crate::Made;
 use ckr_base::NoMemory;
@@ -44,13 +44,6 @@ impl MadeSets {
         ensures few { length self.now.items ≤ 80 }
     {
         self.items.as_slice()
-    }
-
-    /// Whether there are 80.
-    pub fn is_full(&self) -> bool
-        ensures { result ≡ (length self.now.items == 80) }
-    {
-        self.items.len() == 80
     }
 
     /// Puts one behind the others, of which there are fewer than 80.

@@ -4,7 +4,7 @@ ghost use Rattle.ckr_events.specs.Event.{IsCounted};
 use crate::hexadecimal::bytes_of;
 use arrayvec::ArrayVec;
 use ckr_base::{CheckId, Code, DsName, NoMemory};
-use ckr_events::{Ending, Event, EventError, decode, encode, encode_small};
+use ckr_events::{Ending, Event, EventError, decode, encode, encode_front};
 use std::alloc::Global;
 use std::test::Fail;
 
@@ -214,7 +214,9 @@ fn fields_stand_in_their_order(rt: HostRuntime) -> Result<(), Fail> {
 fn a_small_event_goes_behind_what_stands_there(rt: HostRuntime) -> Result<(), Fail> {
     let mut buf = [7].to_vec(rt.alloc())?;
     buf.reserve(4096)?;
-    encode_small(&Event::Purged { job: 3 }, &mut buf);
+    let purged = Event::Purged { job: 3 };
+    let rest = encode_front(&purged, &mut buf);
+    assert!(rt; rest.is_empty());
     assert!(rt; buf.as_slice() == [7, 13, 0, 0, 0, 3].as_slice());
     Ok(())
 }

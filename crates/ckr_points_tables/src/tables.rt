@@ -1,11 +1,11 @@
 //! The tables of the desk.
-ghost use Rattle.std.specs.Prelude.{◌≡◌, ℕ, ◌≤◌, ◌<◌, [], Bool, Some, IsTrue, OnOk, IsOk, length, map, replicate, slice_get, true};
+ghost use Rattle.std.specs.Prelude.{◌≡◌, ℕ, ◌≤◌, ◌<◌, [], Bool, Some, IsTrue, OnOk, IsOk, drop, length, map, replicate, slice_get, true};
 ghost use Rattle.std.specs.List.{list_all};
 ghost use Rattle.std.specs.Option.{option_copied, option_map};
 ghost use Rattle.ckr_library.specs.NameMaps.{EachEntry};
 ghost use Rattle.ckr_points.specs.Rows.{no_tables, run_of, holding_of, RunRow, TableSet};
 ghost use Rattle.ckr_points.specs.declared.run.Run.{Run as LineOfRun};
-ghost use Rattle.ckr_points_tables.specs.EndedRuns.{has_ended};
+ghost use Rattle.ckr_points_tables.specs.EndedRuns.{has_ended, AreEnded};
 ghost use Rattle.ckr_points_tables.specs.RunRows.{IsRunRow};
 ghost use Rattle.ckr_points_tables.specs.View.{facts_in, facts_of, line_of, place_of, run_on, seen_by};
 
@@ -97,9 +97,10 @@ impl Tables {
         self.lines.as_slice()
     }
 
-    /// The lines of the runs from the first one on that has not ended. A test that each ended run passes is passed by all of these
-    /// exactly where all runs pass it, so that no such test looks at the runs that ended long ago.
+    /// The lines of the runs behind the first ones, so many that have all ended. A test that each ended run passes is passed by all of
+    /// these exactly where all runs pass it, so that no such test looks at the runs that ended long ago.
     pub fn unended(&self) -> &[Run]
+        ensures ended { (count : ℕ) × AreEnded count (map line_of self.now.desk.runs) × (result.now ≡ drop count (map line_of self.now.desk.runs)) }
         ensures tests { (test : LineOfRun → Bool) → ((line : LineOfRun) → has_ended line.state ≡ true → test line ≡ true) → list_all test result.now ≡ list_all test (map line_of self.now.desk.runs) }
         ensures rows { (job : ℕ) (row : RunRow) → run_of self.now.desk job ≡ Some row → IsRunRow job row }
     {

@@ -1,6 +1,6 @@
 use Rattle.std.proofs.Common.{sym, subst}
 use Rattle.ckr_desk_memory.specs.Lines.{AreNumberedLines}
-use Rattle.ckr_desk_memory.proofs.LineNumbers.{numbered-lines}
+use Rattle.ckr_desk_memory.proofs.RunLines.{numbered-lines}
 use Rattle.ckr_desk_memory.proofs.jobs.Jobs.runs.Goals as goal
 
 pub returns-clause-numbered : goal.returns-clause-numbered
