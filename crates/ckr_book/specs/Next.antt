@@ -1,10 +1,10 @@
 -- What stands at a gate of a book, seen from the bytes that begin with it.
-use Rattle.std.specs.Prelude.{◌≡◌, ◌≤◌, ◌+◌, ◌-◌, ℕ, Bool, false, true, List, [], ◌∷◌, length, drop, Option, None, Some}
+use Rattle.std.specs.Prelude.{◌≡◌, ◌≤◌, ◌<◌, ◌+◌, ◌-◌, ℕ, Bool, false, true, List, [], ◌∷◌, length, drop, Option, None, Some}
 use Rattle.ckr_outside.specs.Disk.{part}
 use Rattle.ckr_book.specs.Records.{records_from, end_from, starts_open}
 use Rattle.ckr_book.specs.declared.next.Found.{Found}
 use Rattle.ckr_book.specs.declared.next.NextError.{NextError}
-use Rattle.ckr_book.specs.declared.next.NextError.TheVariants.{NoMemory, Fault, Bad}
+use Rattle.ckr_book.specs.declared.next.NextError.TheVariants.{NoMemory, Fault, Bad, Long}
 
 -- no whole record begins there, and the gate is open or not
 pub record NoneAt (rest : List ℕ) (is_open : Bool) : Type 0 where
@@ -32,14 +32,26 @@ abbrev pub NextAt : ℕ → ℕ → Option Found → Type 0
 NextAt place size None = Unit {0}
 NextAt place size (Some found) = (found.next ≡ place + (length found.bytes.items + 5)) × (found.next ≤ size)
 
--- why nothing was found or denied: no memory, the disk's faults, or the gate is open before no whole record
-abbrev pub NextCause : Type 0 → Type 0 → List ℕ → NextError → Type 0
-NextCause rose told rest NoMemory = Unit {0}
-NextCause rose told rest Fault = rose
-NextCause rose told rest Bad = told → NoneAt rest true
+-- what was found has at most so many bytes
+abbrev pub IsShort : ℕ → Option Found → Type 0
+IsShort most None = Unit {0}
+IsShort most (Some found) = length found.bytes.items ≤ most
+
+-- a whole record of more than so many bytes begins there
+pub record LeadsLong (most : ℕ) (rest : List ℕ) : Type 0 where
+  pub bytes : List ℕ
+  pub leads : LeadsWith bytes rest
+  pub long : most < length bytes
+
+-- why nothing was found or denied: no memory, the disk's faults, the gate is open before no whole record, or before one of more bytes than were to be read
+abbrev pub NextCause : Type 0 → Type 0 → ℕ → List ℕ → NextError → Type 0
+NextCause rose told most rest NoMemory = Unit {0}
+NextCause rose told most rest Fault = rose
+NextCause rose told most rest Bad = told → NoneAt rest true
+NextCause rose told most rest Long = told → LeadsLong most rest
 
 -- why bytes weren't read
 abbrev pub ReadCause : Type 0 → NextError → Type 0
 ReadCause rose NoMemory = Unit {0}
 ReadCause rose Fault = rose
-ReadCause rose Bad = ⊥
+ReadCause rose _ = ⊥

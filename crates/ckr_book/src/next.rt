@@ -2,7 +2,7 @@
 ghost use Rattle.std.specs.Prelude.{◌≡◌, ◌≤◌, ◌+◌, IfOk, IfErr, IfSome, length, drop};
 ghost use Rattle.ckr_outside.specs.Disk.{OnlyReads, part};
 ghost use Rattle.ckr_outside.specs.Faults.{Rose};
-ghost use Rattle.ckr_book.specs.Next.{FoundAt, NextAt, NextCause, ReadCause};
+ghost use Rattle.ckr_book.specs.Next.{FoundAt, IsShort, NextAt, NextCause, ReadCause};
 ghost use Rattle.ckr_book.specs.declared.next.NextError.TheVariants.{NoMemory, Fault};
 
 use crate::book::next_gate;
@@ -32,6 +32,9 @@ pub enum NextError {
     /// The gate is open, and no whole record stands behind it.
     #[error("no whole record stands here")]
     Bad,
+    /// The record has more bytes than were to be read.
+    #[error("the record that stands here is too long")]
+    Long,
 }
 
 impl From<Failed> for NextError {
@@ -51,26 +54,30 @@ impl From<AllocError> for NextError {
 }
 
 /// The record whose gate stands at this place of the book of `length` bytes from `at` on, and the place of the next
-/// gate. `None`: the gate is closed, or the book ends there. The place is counted from the book's first byte.
+/// gate. `None`: the gate is closed, or the book ends there. The place is counted from the book's first byte. A record
+/// of more than `most` bytes isn't read, and no memory is taken for it.
 ///
 /// `NoMemory`: there is none for the record. `Fault`: only where the disk's faults rose in this call. `Bad`: exactly
 /// where the gate is open and no whole record stands behind it, which is so where from the gate to the end of the book
-/// there are fewer than 6 bytes, or fewer than the length of its record and 6 (this project's profile).
+/// there are fewer than 6 bytes, or fewer than the length of its record and 6. `Long`: exactly where the record has more
+/// than `most` bytes (this project's profile).
 pub fn next_record<D: Disk>(
     alloc: Global,
     disk: &mut D,
     at: u64,
     length: u32,
     place: u32,
+    most: u32,
 ) -> Result<Option<Found>, NextError>
     requires inside { at + length ≤ D.size disk.old }
     requires place { place ≤ length }
     ensures found { D.told → IfOk result (FoundAt (drop place (part at length (D.content disk.old)))) }
     ensures next { IfOk result (NextAt place length) }
+    ensures short { IfOk result (IsShort most) }
     ensures only_reads { OnlyReads D.content D.may_leave D.moment D.left_since disk.old disk.new }
     ensures size { D.size disk.new ≡ D.size disk.old }
     ensures faults { D.faults disk.old ≤ D.faults disk.new }
-    ensures cause { IfErr result (NextCause (Rose (D.faults disk.old) (D.faults disk.new)) D.told
+    ensures cause { IfErr result (NextCause (Rose (D.faults disk.old) (D.faults disk.new)) D.told most
         (drop place (part at length (D.content disk.old)))) }
 {
     let next = match next_gate(disk, at, length, place) {
@@ -80,7 +87,11 @@ pub fn next_record<D: Disk>(
         Err(BookError::Bad { .. }) => return Err(NextError::Bad),
         Err(BookError::Full { .. }) => unreachable!(),
     };
-    let bytes = read_bytes(alloc, disk, at + place as u64 + 5, next - place - 5)?;
+    let size = next - place - 5;
+    if size > most {
+        return Err(NextError::Long);
+    }
+    let bytes = read_bytes(alloc, disk, at + place as u64 + 5, size)?;
     Ok(Some(Found { bytes, next }))
 }
 

@@ -11,4 +11,5 @@ pub mod RecordTest
 pub mod Trust
 pub mod FreshDisks
 pub mod DeckRecords
+mod LongRecords
 pub mod Syncs

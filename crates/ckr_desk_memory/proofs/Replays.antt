@@ -24,6 +24,7 @@ use Rattle.ckr_desk_memory.specs.Invariant.{AreJobs, IsAcceptedDeck, IsAcceptedR
 use Rattle.ckr_desk_memory.specs.Replay.{IsBounded, deck_of, goes_on, has_few_digits, replayed}
 use Rattle.ckr_desk_memory.specs.View.{JobsView}
 use Rattle.ckr_desk_turn.proofs.AdmittedSteps.{own-step}
+use Rattle.ckr_desk_turn.proofs.KeptDecks.{kept_read}
 use Rattle.ckr_desk_memory.proofs.AcceptedDecks.{accepted-submits}
 use Rattle.ckr_desk_memory.proofs.AcceptedRuns.{accepted-behind}
 use Rattle.ckr_desk_memory.proofs.Invariant.{placed-behind}
@@ -56,21 +57,12 @@ goes-on-with layout tables event deck e =
 
 -- ---- the deck that is read again
 
-read_again : (cards : List ℕ) (deck : Job) → kept_deck cards ≡ Some deck → stored_deck (stored_of_kept cards) ≡ Ok deck
-unfolding kept_deck
-read_again cards deck is = by (nat_le 80 (length cards)) (stored_deck (stored_of_kept cards)) is
-  where
-    by : (long : Bool) (read : Result Job Fault) → cond long (job_in read) None ≡ Some deck → read ≡ Ok deck
-    by false read is = absurd (some-not-none deck (sym is))
-    by true (Err fault) is = absurd (some-not-none deck (sym is))
-    by true (Ok job) is = ap Ok (same_Some job deck is)
-
 deck_accepted : (job : ℕ) (cards : List ℕ) (found : Option Job) → kept_deck cards ≡ found → IsAcceptedDeck job found
 deck_accepted job cards None is = tt
 deck_accepted job cards (Some deck) is = record {
   cards = stored_of_kept cards;
-  accepted = read_again cards deck is;
-  steps = own-step (stored_of_kept cards) job deck (read_again cards deck is);
+  accepted = kept_read cards deck is;
+  steps = own-step (stored_of_kept cards) job deck (kept_read cards deck is);
   plain = λ none. refl;
   first = λ none. refl;
 }
@@ -82,7 +74,7 @@ any_accepted _ bounded = tt
 
 deck_submits : (job : ℕ) (cards : List ℕ) (found : Option Job) → kept_deck cards ≡ found → nat_le job 9999999 ≡ true → IsAnySubmittable job found
 deck_submits job cards None is few = tt
-deck_submits job cards (Some deck) is few = accepted-submits (stored_of_kept cards) job deck (read_again cards deck is) (nat_le-true job 9999999 few)
+deck_submits job cards (Some deck) is few = accepted-submits (stored_of_kept cards) job deck (kept_read cards deck is) (nat_le-true job 9999999 few)
 
 pub any_submits : (event : Event) → has_few_digits event ≡ true → MaySubmit event (deck_of event)
 any_submits (Submitted job cards) few = deck_submits job cards (kept_deck cards) refl few

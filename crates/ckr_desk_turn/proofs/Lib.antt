@@ -5,6 +5,7 @@ pub mod AdmittedSteps
 pub mod Moves
 pub mod Waits
 pub mod Inquiries
+pub mod KeptDecks
 pub mod StepEnd
 pub mod Select
 pub mod RunEnd

@@ -1,5 +1,5 @@
 -- Which events have a spelling, their one spelling, and which event is read from bytes.
-use Rattle.std.specs.Prelude.{◌≡◌, ◌<◌, ◌-◌, ◌/◌, ◌^◌, ◌==◌, ℕ, List, ◌∷◌, length, Result, Ok, Err, min, if◌then◌else◌}
+use Rattle.std.specs.Prelude.{◌≡◌, ◌<◌, ◌+◌, ◌*◌, ◌-◌, ◌/◌, ◌^◌, ◌==◌, ℕ, List, ◌∷◌, length, Result, Ok, Err, min, if◌then◌else◌}
 use Rattle.ckr_fields.specs.Readers.{Reading, ◌>>=◌}
 use Rattle.ckr_fields.specs.Fields.{byte_at, seen_at}
 use Rattle.ckr_events.specs.Format.{job, submitted, selected, denied, started, rewritten, checkpointed, step_ended, restarted, held, ended}
@@ -51,6 +51,11 @@ IsSmall _ = Unit {0}
 abbrev pub IsCounted : Event → Type 0
 IsCounted (Submitted j cards) = length cards / 80 < 2 ^ 32
 IsCounted _ = Unit {0}
+
+-- how many bytes an event has at most: a Submitted one has its cards of 80 bytes behind nine others, and the longest of the rest tells 80 data sets of five extents
+abbrev pub most_bytes : Event → ℕ
+most_bytes (Submitted j cards) = 9 + 80 * (length cards / 80)
+most_bytes _ = 3447
 
 -- ---- reading the fields of each kind
 

@@ -112,7 +112,7 @@ fn is_found<D: Disk>(
     requires place { place ≤ 64 }
     ensures { D.size disk.new ≡ D.size disk.old }
 {
-    let found = next_record(alloc, disk, 8, 64, place)?;
+    let found = next_record(alloc, disk, 8, 64, place, 5)?;
     match (&found, expected) {
         (Some(found), Some((bytes, next))) => {
             assert!(rt; found.bytes.as_slice() == bytes);
@@ -134,8 +134,10 @@ fn read_one_by_one<D: Disk>(rt: &impl Abort, alloc: Global, disk: &mut D) -> Res
     is_found(rt, alloc, disk, 64, None)?;
     assert!(rt; Book::ending_at(8, 64, 23) == Book::open_on(disk, 8, 64)?);
     disk.write_at(8 + 23, &[1, 255, 255, 255, 255])?;
-    let bad = next_record(alloc, disk, 8, 64, 23).err();
+    let bad = next_record(alloc, disk, 8, 64, 23, 5).err();
     assert!(rt; bad == Some(NextError::Bad));
+    let long = next_record(alloc, disk, 8, 64, 13, 4).err();
+    assert!(rt; long == Some(NextError::Long));
     Ok(())
 }
 

@@ -1,6 +1,6 @@
 -- The events of a book, one by one.
 use Rattle.std.specs.Prelude.{◌≡◌, ◌≤◌, ◌+◌, ◌⊎◌, ℕ, true, false, List, length, Ok, Err}
-use Rattle.ckr_book.specs.Next.{NoneAt, LeadsWith}
+use Rattle.ckr_book.specs.Next.{NoneAt, LeadsLong, LeadsWith}
 use Rattle.ckr_events.specs.declared.event.Event.{Event}
 use Rattle.ckr_events.specs.Event.{IsEvent, IsNoEvent, spelling, event_of}
 use Rattle.ckr_journal.specs.declared.events.Next.{Next}
@@ -34,9 +34,9 @@ pub record NoEventAt (record' rest : List ℕ) : Type 0 where
   pub none : IsNoEvent record'
   pub refused : (offset : ℕ) × (event_of record' ≡ Err offset)
 
--- the gate is open, and behind it stands no whole record, or one that is no event
+-- the gate is open, and behind it stands no whole record, one that is no event, or one with more bytes than a deck of 100,000 cards
 abbrev pub IsBadAt : List ℕ → Type 0
-IsBadAt rest = NoneAt rest true ⊎ ((record' : List ℕ) × NoEventAt record' rest)
+IsBadAt rest = NoneAt rest true ⊎ (((record' : List ℕ) × NoEventAt record' rest) ⊎ LeadsLong 8000009 rest)
 
 -- why no event was read
 abbrev pub NextEventCause : Type 0 → Type 0 → List ℕ → NextEventError → Type 0

@@ -60,7 +60,7 @@ pub enum NextEventError {
     /// The disk failed, and its count of faults rose.
     #[error("the disk failed")]
     Fault,
-    /// The gate is open, and behind it stands no whole record, or one that is no event.
+    /// The gate is open, and behind it stands no whole record, one that is no event, or one of more bytes than an event has.
     #[error("no event stands here")]
     Bad,
 }

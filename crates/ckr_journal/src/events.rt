@@ -13,6 +13,9 @@ use std::alloc::Global;
 /// Where the book begins on a disk: behind the header.
 pub const BOOK_AT: u64 = 512;
 
+/// How many bytes an event of a desk has at most: those of a deck of 100,000 cards.
+const MOST_BYTES: u32 = 8_000_009;
+
 /// What stands at a gate of the book.
 #[derive(Drop)]
 pub enum Next {
@@ -26,7 +29,8 @@ pub enum Next {
 /// first byte, which is the disk's byte 512.
 ///
 /// `NoMemory`: there is none for the event. `Fault`: only where the disk's faults rose in this call. `Bad`: exactly
-/// where the gate is open, and behind it stands no whole record, or one that is no event (this project's profile).
+/// where the gate is open, and behind it stands no whole record, one that is no event, or one of more than 8,000,009
+/// bytes, which isn't read: no deck is accepted that has more than 100,000 cards (this project's profile).
 pub fn next_event<D: Disk>(
     alloc: Global,
     disk: &mut D,
@@ -43,12 +47,12 @@ pub fn next_event<D: Disk>(
     ensures cause { IfErr result (NextEventCause (Rose (D.faults disk.old) (D.faults disk.new)) D.told
         (drop place (part 512 book (D.content disk.old)))) }
 {
-    let found = match next_record(alloc, disk, BOOK_AT, book, place) {
+    let found = match next_record(alloc, disk, BOOK_AT, book, place, MOST_BYTES) {
         Ok(Some(found)) => found,
         Ok(None) => return Ok(Next::End),
         Err(NextError::NoMemory) => return Err(NextEventError::NoMemory),
         Err(NextError::Fault) => return Err(NextEventError::Fault),
-        Err(NextError::Bad) => return Err(NextEventError::Bad),
+        Err(NextError::Bad | NextError::Long) => return Err(NextEventError::Bad),
     };
     match decode(alloc, &found.bytes) {
         Ok(event) => Ok(Next::Event {

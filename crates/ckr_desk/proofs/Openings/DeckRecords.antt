@@ -21,7 +21,7 @@ use Rattle.ckr_desk.specs.Soundness.{decked_by, events_in}
 kept-so : (cards : List ℕ) → is_some (kept_deck cards) ≡ true → IsKeptDeck cards (kept_deck cards)
 kept-so cards some = is_some-true (kept_deck cards) some (λ deck is. subst (IsKeptDeck cards) (sym is) is)
 
-went-on : (layout : Layout) (tables : TablesModel) (event : Event) → goes_on layout tables event (deck_of event) ≡ true → IsDeckEvent event (deck_of event)
+pub went-on : (layout : Layout) (tables : TablesModel) (event : Event) → goes_on layout tables event (deck_of event) ≡ true → IsDeckEvent event (deck_of event)
 went-on layout tables (Submitted job cards) goes =
     kept-so cards
     (and-second (job == suc (length tables.runs) && not (is_empty cards)) (is_some (kept_deck cards))

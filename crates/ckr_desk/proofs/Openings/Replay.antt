@@ -4,7 +4,7 @@ use Rattle.std.specs.Option.{is_some}
 use Rattle.std.proofs.lemmas.List.{drop-drop}
 use Rattle.std.proofs.lemmas.Bool.{false≢true}
 use Rattle.ckr_book.specs.Records.{records_from, end_from, starts_open}
-use Rattle.ckr_book.specs.Next.{NoneAt, LeadsWith}
+use Rattle.ckr_book.specs.Next.{NoneAt, LeadsLong, LeadsWith}
 use Rattle.ckr_events.specs.declared.event.Event.{Event}
 use Rattle.ckr_events.specs.Event.{spelling, event_of}
 use Rattle.ckr_desk_memory.proofs.Invariant.{numbered-behind}
@@ -21,6 +21,7 @@ use Rattle.ckr_volumes.specs.declared.layout.Layout.{Layout}
 use Rattle.ckr_volumes.specs.declared.layout.Volume.{Volume}
 use Rattle.ckr_volumes.specs.Header.{IsHeader}
 use Rattle.ckr_volumes.specs.Layouts.{front_of, volumes_end}
+use Rattle.ckr_desk.proofs.Openings.LongRecords.{long_behind}
 use Rattle.ckr_desk.specs.declared.error.OpenError.{OpenError}
 use Rattle.ckr_desk.specs.declared.error.OpenError.TheVariants.{BadBook}
 use Rattle.ckr_desk.specs.declared.error.OpenError.TheVariants as OpenErrors
@@ -107,14 +108,17 @@ gone_on told layout book tables behind place next event goes at follows is yes_f
 pub event_read : (rest : List ℕ) (found : Next) (event : Event) (next : ℕ) → found ≡ Nexts.Event event next → ReadAt rest found → EventAt event rest
 event_read rest found event next is read = subst (ReadAt rest) is read
 
--- a gate that is open before no whole record, or before one that is no event
+-- a gate that is open before no whole record, before one that is no event, or before one that is too long
 no_event : (layout : Layout) (tables : TablesModel) (bytes : List ℕ) (offset : ℕ) → event_of bytes ≡ Err offset → behind_record layout tables bytes ≡ None
 unfolding behind_record
 no_event layout tables bytes offset refused = ap (λ (r : Result Event ℕ). behind_read layout tables r) refused
 
 pub bad_there : (layout : Layout) (book : List ℕ) (tables : TablesModel) (place : ℕ) → IsReplayed layout book tables place → IsBadAt (drop place book) → by_book layout book ≡ Err (BadBook place)
-bad_there layout book tables place earlier bad = ⊎_elim at_gate at_record bad
+bad_there layout book tables place earlier bad = ⊎_elim at_gate (⊎_elim at_record at_long) bad
   where
+    at_long : LeadsLong 8000009 (drop place book) → by_book layout book ≡ Err (BadBook place)
+    at_long wrong = ap (by_end layout book) (earlier.same ∙ from_record layout tables place wrong.bytes (drop place book) None wrong.leads (long_behind layout tables wrong.bytes wrong.long))
+
     at_record : (record' : List ℕ) × NoEventAt record' (drop place book) → by_book layout book ≡ Err (BadBook place)
     at_record wrong = ap (by_end layout book) (earlier.same ∙ from_record layout tables place wrong.0 (drop place book) None wrong.1.leads (no_event layout tables wrong.0 wrong.1.refused.0 wrong.1.refused.1))
 

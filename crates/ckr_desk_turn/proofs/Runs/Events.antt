@@ -42,20 +42,11 @@ use Rattle.ckr_volumes.specs.declared.layout.Layout.{Layout}
 use Rattle.ckr_desk_turn.specs.Invariant.{IsAdmitted, has_its_step, is_in_its_state, is_off, is_on_one}
 use Rattle.ckr_desk_turn.specs.DeckEvents.{IsKeptDeck}
 use Rattle.ckr_desk_turn.proofs.AdmittedSteps.{queued-admitted}
+use Rattle.ckr_desk_turn.proofs.KeptDecks.{kept_read}
 use Rattle.ckr_desk_turn.proofs.OtherRuns.{between-steps}
 use Rattle.ckr_desk_turn.proofs.Runs.Rows.{HasRow, HasRows, Stands, has-row, runs-renewed, stands-more, stands-one}
 use Rattle.ckr_desk_turn.proofs.Select.{code_while, front_row, last_row, queued-on}
 use Rattle.ckr_desk_turn.proofs.StepEnd.{by-changed}
-
--- the deck of kept cards is that of their columns
-kept-stored : (cards : List ℕ) (deck : Job) → kept_deck cards ≡ Some deck → stored_deck (stored_of_kept cards) ≡ Ok deck
-unfolding kept_deck
-kept-stored cards deck kept = by (nat_le 80 (length cards)) (stored_deck (stored_of_kept cards)) kept
-  where
-    by : (long : Bool) (read : Result Job Fault) → cond long (job_in read) None ≡ Some deck → read ≡ Ok deck
-    by false read e = cc
-    by true (Ok job) e = ap Ok (same_Some job deck e)
-    by true (Err fault) e = cc
 
 on-is : (state : RunState) → (state_number state == 2) ≡ true → state ≡ On
 on-is On e = refl
@@ -86,7 +77,7 @@ module _ (layout : Layout) (office : Office) (kept : IsAgreed layout office) (ha
       (record {
         next = queued_run (suc (length office.tables.runs)) deck;
         stands = record { mine = last_row office.tables.runs (queued_run (suc (length office.tables.runs)) deck); others = others };
-        has = record { in_state = refl; admitted = queued-admitted (stored_of_kept cards) (suc (length office.tables.runs)) deck (kept-stored cards deck kept_so); stepped = refl };
+        has = record { in_state = refl; admitted = queued-admitted (stored_of_kept cards) (suc (length office.tables.runs)) deck (kept_read cards deck kept_so); stepped = refl };
       })
       has.spaced has.spaced_legs)
     where
