@@ -1,9 +1,8 @@
 -- The rows behind an event by which no run ends.
-use Rattle.std.proofs.Common.{◌≡◌, ◌≢◌, ℕ, zero, suc, Bool, true, false, cond, not, ◌&&◌, ◌||◌, List, [], ◌∷◌, ◌++◌, length, refl, ap, sym, ◌∙◌, subst, Option, Some, None, Result, Ok, Err}
-use Rattle.std.specs.Prelude.{◌==◌, nat_le}
+use Rattle.std.proofs.Common.{◌≡◌, ◌≢◌, ℕ, zero, suc, true, false, not, ◌&&◌, ◌||◌, List, [], ◌∷◌, ◌++◌, length, refl, ap, sym, ◌∙◌, subst, Option, Some, None}
+use Rattle.std.specs.Prelude.{◌==◌}
 use Rattle.std.specs.Option.{is_none, is_some, option_map_or}
 use Rattle.std.proofs.lemmas.Bool.{false≢true, or_right}
-use Rattle.std.proofs.lemmas.Option.{same_Some}
 use Rattle.arrayvec.specs.ArrayVec.{ArrayVec}
 use Rattle.ckr_base.specs.declared.code.Code.{Code}
 use Rattle.ckr_base.proofs.Bools.{and-first, and-second}
@@ -11,8 +10,6 @@ use Rattle.ckr_base.proofs.Numbers.{equal-true}
 use Rattle.ckr_events.specs.declared.event.Event.TheVariants.{Cancelled as CancelledEvent, Checkpointed as CheckpointedEvent, Denied as DeniedEvent, Held as HeldEvent, Purged as PurgedEvent, Released as ReleasedEvent, Rewritten as RewrittenEvent, Selected as SelectedEvent, Started as StartedEvent, StepEnded as StepEndedEvent, Submitted as SubmittedEvent}
 use Rattle.ckr_events.specs.declared.event.Made.{Made}
 use Rattle.ckr_jcl.specs.declared.deck.Job.{Job}
-use Rattle.ckr_jcl_decks.specs.Parts.Fault.{Fault}
-use Rattle.ckr_jcl_decks.specs.Deck.{stored_deck}
 use Rattle.ckr_library.specs.declared.sets.Kept.{Kept}
 use Rattle.ckr_library.specs.NameMaps.{Name, Named, with_changed}
 use Rattle.ckr_meaning.specs.Allotments.{DdAllotment, opened_all}
@@ -20,7 +17,7 @@ use Rattle.ckr_meaning.specs.EffectiveJob.{OwnedStep, placed_in, stamp_of}
 use Rattle.ckr_meaning.specs.LibrarySet.{AreWithinSpace}
 use Rattle.ckr_meaning.specs.declared.place.Place.TheVariants.{Before, Within}
 use Rattle.ckr_points_library.specs.Commit.{output_names}
-use Rattle.ckr_points_decks.specs.Cards.{job_in, kept_deck, stored_of_kept}
+use Rattle.ckr_points_decks.specs.Cards.{stored_of_kept}
 use Rattle.ckr_points.specs.declared.run.RunState.{RunState}
 use Rattle.ckr_points.specs.declared.run.RunState.TheVariants.{Denied, Held as HeldRun, On, Queued, Purged, Released as ReleasedRun}
 use Rattle.ckr_points.specs.Follows.{is_checkpoint, is_empty, is_in_state, is_rewrite, is_running, is_within, lengths_follow, of_step, own_step, state_number}
