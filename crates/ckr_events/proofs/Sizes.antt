@@ -1,5 +1,5 @@
 -- How many bytes an event has at most.
-use Rattle.std.proofs.Common.{◌≡◌, ◌≤◌, ◌<◌, ◌+◌, ◌*◌, ◌==◌, ℕ, zero, suc, Bool, true, false, cond, nat_le, List, [], ◌∷◌, length, take, drop, refl, sym, ap, ◌∙◌, subst, w16, w32, Option, Some, None, Result, Ok, Err, arith}
+use Rattle.std.proofs.Common.{◌≡◌, ◌≤◌, ◌+◌, ◌*◌, ◌==◌, ℕ, zero, suc, Bool, true, false, cond, List, [], ◌∷◌, length, take, drop, refl, ap, ◌∙◌, subst, w16, w32, Option, Some, None, Result, Ok, Err, arith}
 use Rattle.std.proofs.lemmas.Bool.Decides.{nat_tests}
 use Rattle.std.proofs.lemmas.List.{length-drop, length-take}
 use Rattle.std.proofs.lemmas.Nat.{mul-le}
@@ -14,7 +14,7 @@ use Rattle.ckr_events.specs.declared.event.Event.{Event}
 use Rattle.ckr_events.specs.declared.event.Event.TheVariants.{Cancelled, Checkpointed, Denied, Ended, Held, Purged, Released, Restarted, Rewritten, Selected, Started, StepEnded, Submitted}
 use Rattle.ckr_events.specs.declared.event.Ending.TheVariants.{Completed, Coded, Allocation}
 use Rattle.ckr_events.specs.Event.{at_offset, cancelled_at, checkpointed_at, denied_at, ended_at, event_of, fields_at, held_at, most_bytes, purged_at, released_at, restarted_at, rewritten_at, selected_at, started_at, step_ended_at, submitted_at, whole_at}
-use Rattle.ckr_events.specs.Format.{all_made, allocation, allocation_at, checkpointed, coded, coded_at, denied, ended, ending_at, from_one, held, job, length_list, lengths_at, made_at, made_list_at, made_parts, number_if, number_if_at, numbers_of, piece_at, piece_list, piece_parts, pieces_at, restarted, rewritten, selected, started, step_ended, submitted}
+use Rattle.ckr_events.specs.Format.{all_made, allocation, allocation_at, checkpointed, coded, coded_at, denied, ended, ending_at, from_one, held, job, length_list, lengths_at, made_at, made_list_at, made_parts, number_if_at, piece_at, piece_list, piece_parts, pieces_at, restarted, rewritten, selected, started, step_ended, submitted}
 
 -- ---- the bytes of a field
 
