@@ -21,7 +21,8 @@ pub(crate) struct Hole {
 
 /// One extent for a new part on a volume, at the front of the lowest hole that holds the space. A hole is a largest
 /// run of the volume's bytes that lies in no extent; its records are its bytes divided by the record length, rounded
-/// down. It looks once at each extent on the volume, and takes no memory (this project's profile).
+/// down. It looks once at each extent on the volume that begins behind the first hole, and at none before it, and takes no memory
+/// (this project's profile).
 ///
 /// `NoSpace`: exactly where the largest hole has fewer records than the space.
 pub fn allocate(
@@ -62,7 +63,8 @@ fn at_lowest(
     ensures refused { IfErr result (λ cause. allocated layout.now library.now volume lrecl space ≡ Err cause) }
 {
     let end = bytes_of(layout.volumes.as_slice(), volume);
-    let start = lowest(library.spans_on(volume), end, lrecl, space)?;
+    let packed = library.packed_on(volume);
+    let start = lowest(packed.from as u64, packed.rest, end, lrecl, space)?;
     let mut extents = ArrayVec::new();
     extents.push(Extent {
         start,
@@ -71,15 +73,21 @@ fn at_lowest(
     Ok(extents)
 }
 
-/// Where the lowest hole between the spans begins that holds the space.
-fn lowest(spans: &[Span], end: u32, lrecl: u16, space: u32) -> Result<u32, NoSpace>
+/// Where the lowest hole from this byte on, between the spans, begins that holds the space.
+fn lowest(
+    mut from: u64,
+    spans: &[Span],
+    end: u32,
+    lrecl: u16,
+    space: u32,
+) -> Result<u32, NoSpace>
     requires lrecl { 1 ≤ lrecl }
     requires space { 1 ≤ space }
+    requires from { from ≤ end }
     requires inside { IsTrue (list_all (ends_by end) spans.now) }
-    ensures made { IfOk result (λ start. placed_in lrecl space (holes_from 0 end spans.now) ≡ Ok (record { start = start; records = space } ∷ [])) }
-    ensures refused { IfErr result (λ cause. placed_in lrecl space (holes_from 0 end spans.now) ≡ Err cause) }
+    ensures made { IfOk result (λ start. placed_in lrecl space (holes_from from end spans.now) ≡ Ok (record { start = start; records = space } ∷ [])) }
+    ensures refused { IfErr result (λ cause. placed_in lrecl space (holes_from from end spans.now) ≡ Err cause) }
 {
-    let mut from = 0;
     let mut free = 0;
     for span in spans {
         if span.bytes == 0 {
