@@ -1,11 +1,10 @@
 -- Spans that follow on one another leave no hole: the holes are those behind them.
-use Rattle.std.proofs.Common.{◌≡◌, ◌≤◌, ℕ, ◌+◌, Bool, true, false, cond, IsTrue, nat_le, nat_lt, eqb, max, List, [], ◌∷◌, ◌++◌, refl, ap, sym, ◌∙◌, arith}
+use Rattle.std.proofs.Common.{◌≡◌, ◌≤◌, ℕ, true, false, cond, IsTrue, nat_le, nat_lt, eqb, max, List, [], ◌∷◌, ◌++◌, refl, ap, ◌∙◌, arith}
 use Rattle.std.specs.List.{list_all}
 use Rattle.std.proofs.lemmas.Bool.{and_parts, leb-true}
 use Rattle.std.proofs.lemmas.Bool.Decides.{nat_tests}
 use Rattle.ckr_library.specs.declared.spread.Span.{Span}
 use Rattle.ckr_library.specs.Spread.{packed_to, behind_packed}
-use Rattle.ckr_volumes.specs.declared.space.Hole.{Hole}
 use Rattle.ckr_volumes.specs.Space.{ends_by, hole_between, holes_from, span_end}
 
 -- no hole up to a byte that isn't behind

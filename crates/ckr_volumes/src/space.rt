@@ -62,9 +62,7 @@ fn at_lowest(
     ensures made { IfOk result (λ extents. allocated layout.now library.now volume lrecl space ≡ Ok extents.items) }
     ensures refused { IfErr result (λ cause. allocated layout.now library.now volume lrecl space ≡ Err cause) }
 {
-    let end = bytes_of(layout.volumes.as_slice(), volume);
-    let packed = library.packed_on(volume);
-    let start = lowest(packed.from as u64, packed.rest, end, lrecl, space)?;
+    let start = lowest_on(layout, library, volume, lrecl, space)?;
     let mut extents = ArrayVec::new();
     extents.push(Extent {
         start,
@@ -73,14 +71,27 @@ fn at_lowest(
     Ok(extents)
 }
 
-/// Where the lowest hole from this byte on, between the spans, begins that holds the space.
-fn lowest(
-    mut from: u64,
-    spans: &[Span],
-    end: u32,
+/// Where the lowest hole of a volume begins that holds the space.
+fn lowest_on(
+    layout: &Layout,
+    library: &Library,
+    volume: u8,
     lrecl: u16,
     space: u32,
 ) -> Result<u32, NoSpace>
+    requires lrecl { 1 ≤ lrecl }
+    requires space { 1 ≤ space }
+    requires stand { EachEntry (λ (h : Holding). StandsIn layout.now h.set) library.now.sets }
+    ensures made { IfOk result (λ start. allocated layout.now library.now volume lrecl space ≡ Ok (record { start = start; records = space } ∷ [])) }
+    ensures refused { IfErr result (λ cause. allocated layout.now library.now volume lrecl space ≡ Err cause) }
+{
+    let end = bytes_of(layout.volumes.as_slice(), volume);
+    let packed = library.packed_on(volume);
+    lowest(packed.from as u64, packed.rest, end, lrecl, space)
+}
+
+/// Where the lowest hole from this byte on, between the spans, begins that holds the space.
+fn lowest(mut from: u64, spans: &[Span], end: u32, lrecl: u16, space: u32) -> Result<u32, NoSpace>
     requires lrecl { 1 ≤ lrecl }
     requires space { 1 ≤ space }
     requires from { from ≤ end }
