@@ -84,8 +84,7 @@ fn is_clear_of_sets(tables: &Tables, lrecl: u16, stretch: &Stretch) -> bool
     ensures { result ≡ clears tables.now.desk.sets lrecl (stretch_now stretch.now) }
 {
     let library = tables.library();
-    stretch.records == 0
-        || library.is_free(stretch.volume, stretch.start, bytes_in(lrecl, stretch))
+    stretch.records == 0 || library.is_free(stretch.volume, stretch.start, bytes_in(lrecl, stretch))
 }
 
 /// Whether stretches have no byte of the data sets of the tables.
