@@ -80,8 +80,8 @@ fn is_same(one: Front, other: Front) -> bool
     one.volume == other.volume && one.reach == other.reach && one.packed == other.packed
 }
 
-/// Works the fronts out again from a place on, where `was` stood before it and `now` does, up to the first one that comes out as it was.
-/// Those behind it stand, since they follow from it and from the spans.
+/// Works the fronts out again from a place on, where the front before it was `was` and is `now`, up to the first one that comes out
+/// as it was. Those behind it stand, since they follow from it and from the spans.
 pub(crate) fn renew(
     spans: &[Span],
     fronts: &mut [Front],

@@ -78,15 +78,16 @@ impl Library {
         self.spread.on(volume)
     }
 
-    /// Whether no extent of a data set has one of so many bytes of a volume from a start on. A look-up halves.
+    /// Whether no extent of a data set has one of so many bytes of a volume from a start on; of no bytes, whether none begins before
+    /// the start and ends behind it. A look-up halves.
     pub fn is_free(&self, volume: u8, start: u32, bytes: u64) -> bool
         ensures { result ≡ list_all (is_outside start bytes) (spread_on volume self.now.sets) }
     {
         self.spread.is_free(volume, start, bytes)
     }
 
-    /// Up to where the extents on a volume follow on one another from its first byte on, with no hole before or between them, and those
-    /// behind. A look-up halves.
+    /// Up to where the extents on a volume follow on one another from its first byte on, with no hole before or between them, and
+    /// those behind. A look-up halves.
     pub fn packed_on(&self, volume: u8) -> Packed<'_>
         ensures from { result.from ≡ packed_to 0 (spread_on volume self.now.sets) }
         ensures rest { result.rest.now ≡ behind_packed 0 (spread_on volume self.now.sets) }

@@ -86,8 +86,8 @@ impl Spread {
         between(self.spans.as_slice(), from, to)
     }
 
-    /// Whether no span has one of so many bytes of a volume from a start on, found by halving: those that begin before the end of these
-    /// bytes all reach no further than the start.
+    /// Whether no span has one of so many bytes of a volume from a start on, found by halving: so it is where those that begin before
+    /// the end of these bytes all end by the start.
     pub(crate) fn is_free(&self, volume: u8, start: u32, bytes: u64) -> bool
         ensures { result ≡ list_all (is_outside start bytes) (filter (is_on volume) self.now.spans) }
     {

@@ -21,8 +21,8 @@ pub(crate) struct Hole {
 
 /// One extent for a new part on a volume, at the front of the lowest hole that holds the space. A hole is a largest
 /// run of the volume's bytes that lies in no extent; its records are its bytes divided by the record length, rounded
-/// down. It looks once at each extent on the volume that begins behind the first hole, and at none before it, and takes no memory
-/// (this project's profile).
+/// down. It looks once at each extent on the volume behind the first hole, at none before it, and takes no memory (this
+/// project's profile).
 ///
 /// `NoSpace`: exactly where the largest hole has fewer records than the space.
 pub fn allocate(

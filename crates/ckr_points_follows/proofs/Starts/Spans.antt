@@ -17,8 +17,13 @@ use Rattle.ckr_points.specs.Rows.{TableSet, holding_of}
 use Rattle.ckr_points_tables.specs.View.{seen_by}
 use Rattle.ckr_volumes.specs.Places.{StretchModel, end_of, stretch_on, stretches_of, stretches_of_part}
 use Rattle.ckr_volumes.specs.Layouts.{are_apart}
-use Rattle.ckr_points_follows.specs.Clearance.{clears, is_clear_of}
+use Rattle.ckr_points_follows.specs.Clearance.{clears}
 use Rattle.ckr_points_follows.proofs.Lists.{all-filtered, all-turned, and-swap}
+
+-- a stretch has no byte of a span of its volume
+abbrev pub is_clear_of : ℕ → StretchModel → Span → Bool
+is_clear_of lrecl one span =
+    (one.records == 0 || span.bytes == 0) || (nat_le (end_of lrecl one) span.start || nat_le (span.start + span.bytes) one.start)
 
 -- ---- a test of all spans
 
