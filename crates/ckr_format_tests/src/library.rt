@@ -84,11 +84,21 @@ fn are_spread(spans: &[Span]) -> bool {
     }
 }
 
+/// Volume 0 has no hole before byte 1600, and none of its bytes is taken from there on.
+fn are_packed(library: &Library) -> bool {
+    let packed = library.packed_on(0);
+    packed.from == 1600
+        && packed.rest.is_empty()
+        && library.is_free(0, 1600, 80)
+        && !library.is_free(0, 1599, 80)
+}
+
 #[test]
 fn keeps_data_sets_by_name(rt: HostRuntime) -> Result<(), Fail> {
     let mut library = Library::new(rt.alloc());
     assert!(rt; are_entered(&mut library)?);
     assert!(rt; are_spread(library.spans_on(0)));
+    assert!(rt; are_packed(&library));
     Ok(())
 }
 

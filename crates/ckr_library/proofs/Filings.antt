@@ -7,6 +7,7 @@ use Rattle.std.proofs.lemmas.Grind.{common_steps}
 use Rattle.std.proofs.lemmas.Bool.{and_from, not-true}
 use Rattle.ckr_base.proofs.Bools.{and-first, and-second, true-not-false}
 use Rattle.ckr_library.specs.declared.spread.Span.{Span}
+use Rattle.ckr_library.specs.Fronts.{begins_before}
 use Rattle.ckr_library.specs.Places.{lead}
 use Rattle.ckr_library.specs.Spread.{span_cmp, is_before, filed, filed_all, unfiled, unfiled_all, is_on, is_below, is_at_most, is_first, rises}
 
@@ -23,13 +24,13 @@ pub tied : (a b : Span) → is_before a b ≡ false → is_before b a ≡ false 
 tied a b e f = grind (arith, nat_tests)
 
 -- a span isn't before itself
-before_itself : (a : Span) → is_before a a ≡ false
+pub before_itself : (a : Span) → is_before a a ≡ false
 before_itself a = grind (arith, nat_tests)
 
 same_itself : (a : Span) → is_eq (span_cmp a a) ≡ true
 same_itself a = grind (arith, nat_tests)
 
-true_not : (a : Bool) → a ≡ false → IsTrue (not a)
+pub true_not : (a : Bool) → a ≡ false → IsTrue (not a)
 true_not a e = ap not e
 
 -- the spans behind a first one aren't before it
@@ -209,20 +210,27 @@ below_by volume one other le e = grind (arith, nat_tests)
 at_most_by : (volume : ℕ) (one other : Span) → one.volume ≤ other.volume → is_at_most volume other ≡ true → is_at_most volume one ≡ true
 at_most_by volume one other le e = grind (arith, nat_tests)
 
-module _ (p : Span → Bool) (falls : (one other : Span) → one.volume ≤ other.volume → p other ≡ true → p one ≡ true) where
-  parted_by_volume : (spans : List Span) → IsTrue (rises spans) → IsPartitionedBy p spans
-  parted_by_volume [] rise i j d le inside holds = absurd (omega (arith, inside))
-  parted_by_volume (first ∷ rest) rise zero zero d le inside holds = holds
-  parted_by_volume (first ∷ rest) rise zero (suc j) d le inside holds =
-      falls first (slice_index_or rest j d) (volumes_rise first (slice_index_or rest j d) (first_at first rest (and-first _ _ rise) j d (omega (arith, inside)))) holds
-  parted_by_volume (first ∷ rest) rise (suc i) zero d le inside holds = absurd (omega (arith, le))
-  parted_by_volume (first ∷ rest) rise (suc i) (suc j) d le inside holds = parted_by_volume rest (and-second _ _ rise) i j d (omega (arith, le)) (omega (arith, inside)) holds
+module _ (p : Span → Bool) (falls : (one other : Span) → is_before other one ≡ false → p other ≡ true → p one ≡ true) where
+  -- what holds of a span holds of those before it
+  pub parted-by : (spans : List Span) → IsTrue (rises spans) → IsPartitionedBy p spans
+  parted-by [] rise i j d le inside holds = absurd (omega (arith, inside))
+  parted-by (first ∷ rest) rise zero zero d le inside holds = holds
+  parted-by (first ∷ rest) rise zero (suc j) d le inside holds =
+      falls first (slice_index_or rest j d) (first_at first rest (and-first _ _ rise) j d (omega (arith, inside))) holds
+  parted-by (first ∷ rest) rise (suc i) zero d le inside holds = absurd (omega (arith, le))
+  parted-by (first ∷ rest) rise (suc i) (suc j) d le inside holds = parted-by rest (and-second _ _ rise) i j d (omega (arith, le)) (omega (arith, inside)) holds
 
 pub parted_below : (volume : ℕ) (spans : List Span) → IsTrue (rises spans) → IsPartitionedBy (is_below volume) spans
-parted_below volume = parted_by_volume (is_below volume) (below_by volume)
+parted_below volume = parted-by (is_below volume) (λ one other e. below_by volume one other (volumes_rise one other e))
 
 pub parted_at_most : (volume : ℕ) (spans : List Span) → IsTrue (rises spans) → IsPartitionedBy (is_at_most volume) spans
-parted_at_most volume = parted_by_volume (is_at_most volume) (at_most_by volume)
+parted_at_most volume = parted-by (is_at_most volume) (λ one other e. at_most_by volume one other (volumes_rise one other e))
+
+begins_back : (volume end : ℕ) (one other : Span) → is_before other one ≡ false → begins_before volume end other ≡ true → begins_before volume end one ≡ true
+begins_back volume end one other e f = grind (arith, nat_tests)
+
+pub parted_begins : (volume end : ℕ) (spans : List Span) → IsTrue (rises spans) → IsPartitionedBy (begins_before volume end) spans
+parted_begins volume end = parted-by (begins_before volume end) (begins_back volume end)
 
 -- behind a span of the volume or of a higher one, none is below
 none_below : (volume : ℕ) (first : Span) (spans : List Span) → volume ≤ first.volume → IsTrue (is_first first spans) → lead (is_below volume) spans ≡ 0
@@ -232,7 +240,7 @@ none_below volume first (next ∷ spans) le e =
     ap (λ b. cond b (suc (lead (is_below volume) spans)) 0) above
 
 -- behind a span of a higher volume, none is of the volume
-none_on : (volume : ℕ) (first : Span) (spans : List Span) → volume < first.volume → IsTrue (is_first first spans) → filter (is_on volume) spans ≡ []
+pub none_on : (volume : ℕ) (first : Span) (spans : List Span) → volume < first.volume → IsTrue (is_first first spans) → filter (is_on volume) spans ≡ []
 none_on volume first [] le e = refl
 none_on volume first (next ∷ spans) le e =
     let past : is_on volume next ≡ false = grind (arith, nat_tests, volumes_rise first next (not-true _ (and-first _ _ e))) in

@@ -6,3 +6,8 @@ pub mod OrderedLists
 pub mod SearchPlaces
 pub mod Shelves
 pub mod Spreads
+pub mod FreeBytes
+pub mod FrontLists
+pub mod FrontVolumes
+pub mod PackedFronts
+pub mod FrontEdits

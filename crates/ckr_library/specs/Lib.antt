@@ -1,4 +1,5 @@
 pub mod Catalog
+pub mod Fronts
 pub mod NameMaps
 pub mod Places
 pub mod Shelves

@@ -1,5 +1,5 @@
 -- Where the data sets of a library stand on the volumes: their spans, in the order of volume and start.
-use Rattle.std.specs.Prelude.{ℕ, nat_lt, nat_le, ◌*◌, ◌==◌, ◌&&◌, Bool, true, not, cond, List, [], ◌∷◌, map, flat_map, filter}
+use Rattle.std.specs.Prelude.{ℕ, nat_lt, nat_le, max, ◌+◌, ◌*◌, ◌==◌, ◌&&◌, ◌||◌, Bool, true, not, cond, if◌then◌else◌, List, [], ◌∷◌, map, flat_map, filter}
 use Rattle.std.specs.Ordering.{nat_cmp, ordering_then, is_lt, is_eq}
 use Rattle.std.specs.declared.cmp.Ordering.{Ordering}
 use Rattle.ckr_library.specs.declared.sets.DataSet.{DataSet}
@@ -86,3 +86,23 @@ pub record Filing : Type 0 where
 abbrev pub ascends : ℕ → List Span → Bool
 ascends from [] = true
 ascends from (span ∷ spans) = nat_le from span.start && ascends span.start spans
+
+-- whether a span has none of so many bytes of its volume, from this one on
+abbrev pub is_outside : ℕ → ℕ → Span → Bool
+is_outside start bytes span = span.bytes == 0 || (nat_le (span.start + span.bytes) start || nat_le (start + bytes) span.start)
+
+-- where the spans ascend by their starts, the byte up to which they follow on one another from this one on, with no hole between them
+abbrev pub packed_to : ℕ → List Span → ℕ
+packed_to from [] = from
+packed_to from (span ∷ spans) =
+    if span.bytes == 0 then packed_to from spans
+    else if nat_le span.start from then packed_to (max from (span.start + span.bytes)) spans
+    else from
+
+-- the spans behind the first hole
+abbrev pub behind_packed : ℕ → List Span → List Span
+behind_packed from [] = []
+behind_packed from (span ∷ spans) =
+    if span.bytes == 0 then behind_packed from spans
+    else if nat_le span.start from then behind_packed (max from (span.start + span.bytes)) spans
+    else span ∷ spans

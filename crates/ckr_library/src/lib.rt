@@ -1,6 +1,7 @@
 //! The library: which data sets there are, and what each is.
 #![tactic(auto)]
 
+mod fronts;
 mod library;
 mod sets;
 mod shelf;
@@ -9,5 +10,5 @@ mod uses;
 
 pub use library::Library;
 pub use sets::{Content, DataSet, Extent, Kept, Part, Stamp};
-pub use spread::Span;
+pub use spread::{Packed, Span};
 pub use uses::{Use, Uses};

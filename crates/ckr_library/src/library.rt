@@ -1,12 +1,13 @@
 //! The data sets by name.
 ghost use Rattle.std.specs.Prelude.{◌≡◌, ◌+◌, ◌<◌, ◌≤◌, [], None, IsOk, IsTrue, OnOk, OnErr, slice_get};
+ghost use Rattle.std.specs.List.{list_all};
 ghost use Rattle.std.specs.Option.{option_copied};
 ghost use Rattle.ckr_library.specs.Catalog.{set_of, kept_of, entry_room, fresh_holding, with_catalog, with_kept, with_length, with_stamp, HasSet, KeepsEntryRoom};
 ghost use Rattle.ckr_library.specs.NameMaps.{are_named_in_order, names_of, with_entry, without_entry, with_changed};
-ghost use Rattle.ckr_library.specs.Spread.{spread_on};
+ghost use Rattle.ckr_library.specs.Spread.{spread_on, is_outside, packed_to, behind_packed};
 
 use crate::shelf::Shelf;
-use crate::spread::{Span, Spread};
+use crate::spread::{Packed, Span, Spread};
 use crate::{DataSet, Kept, Stamp};
 use ckr_base::{DsName, NoMemory};
 use std::alloc::Global;
@@ -75,6 +76,23 @@ impl Library {
         ensures { result.now ≡ spread_on volume self.now.sets }
     {
         self.spread.on(volume)
+    }
+
+    /// Whether no extent of a data set has one of so many bytes of a volume from a start on; of no bytes, whether none begins before
+    /// the start and ends behind it. A look-up halves.
+    pub fn is_free(&self, volume: u8, start: u32, bytes: u64) -> bool
+        ensures { result ≡ list_all (is_outside start bytes) (spread_on volume self.now.sets) }
+    {
+        self.spread.is_free(volume, start, bytes)
+    }
+
+    /// Up to where the extents on a volume follow on one another from its first byte on, with no hole before or between them, and
+    /// those behind. A look-up halves.
+    pub fn packed_on(&self, volume: u8) -> Packed<'_>
+        ensures from { result.from ≡ packed_to 0 (spread_on volume self.now.sets) }
+        ensures rest { result.rest.now ≡ behind_packed 0 (spread_on volume self.now.sets) }
+    {
+        self.spread.packed_on(volume)
     }
 
     /// Makes room for `more` further names, so that as many calls of `insert` take no memory.

@@ -1,9 +1,12 @@
 //! Where the data sets stand on the volumes.
 ghost use Rattle.std.specs.Prelude.{◌≡◌, ◌+◌, ◌-◌, ◌*◌, ◌≤◌, ◌<◌, [], IsOk, IsTrue, IfNone, IfSome, OnOk, length, take, drop, filter, remove};
 ghost use Rattle.std.specs.Ordering.{is_eq};
+ghost use Rattle.std.specs.List.{list_all};
+ghost use Rattle.ckr_library.specs.Fronts.{begins_before};
 ghost use Rattle.ckr_library.specs.Places.{lead};
-ghost use Rattle.ckr_library.specs.Spread.{span_of, spans_of_part, spans_of, span_cmp, is_before, filed, filed_all, unfiled, unfiled_all, is_on, is_below, is_at_most, rises};
+ghost use Rattle.ckr_library.specs.Spread.{span_of, spans_of_part, spans_of, span_cmp, is_before, filed, filed_all, unfiled, unfiled_all, is_on, is_below, is_at_most, is_outside, packed_to, behind_packed, rises};
 
+use crate::fronts::{Front, first_parted, front_after, front_before, front_on, renew};
 use crate::{DataSet, Extent, Part};
 use ckr_base::NoMemory;
 use std::alloc::Global;
@@ -23,21 +26,32 @@ pub struct Span {
     pub bytes: u64,
 }
 
-/// The spans of all data sets, in the order of volume, start and length.
+/// Up to where the spans of a volume follow on one another from its first byte on, and the spans behind.
+#[derive(Clone, Copy)]
+pub struct Packed<'a> {
+    /// The first byte of the volume that lies in no span, or the one behind all of them.
+    pub from: u128,
+    /// The spans behind it, in ascending order of their starts.
+    pub rest: &'a [Span],
+}
+
+/// The spans of all data sets, in the order of volume, start and length, and beside each the front behind it.
 #[derive(Drop)]
 pub(crate) struct Spread {
     spans: Vec<Span>,
+    fronts: Vec<Front>,
 }
 
 impl Model for Spread {
-    ghost use Rattle.std.specs.Prelude.{◌-◌, IsTrue, vec_len, vec_capacity};
-    ghost use Rattle.ckr_library.specs.Spread.{Filing, rises};
+    ghost use Rattle.std.specs.Prelude.{◌-◌, min, vec_len, vec_capacity};
+    ghost use Rattle.ckr_library.specs.Fronts.{AreSpread};
+    ghost use Rattle.ckr_library.specs.Spread.{Filing};
 
     ghost Value = { Filing };
 
-    ghost view = { λ a. record { spans = a.spans.items; room = vec_capacity a.spans - vec_len a.spans } };
+    ghost view = { λ a. record { spans = a.spans.items; room = min (vec_capacity a.spans - vec_len a.spans) (vec_capacity a.fronts - vec_len a.fronts) } };
 
-    ghost invariant = { λ a. IsTrue (rises a.spans.items) };
+    ghost invariant = { λ a. AreSpread a.spans.items a.fronts.items };
 }
 
 impl Spread {
@@ -47,6 +61,7 @@ impl Spread {
     {
         Spread {
             spans: Vec::new(alloc),
+            fronts: Vec::new(alloc),
         }
     }
 
@@ -58,6 +73,7 @@ impl Spread {
         ensures succeeds { more * 25 ≤ self.old.room → IsOk result }
     {
         self.spans.reserve(more as usize * MOST_EXTENTS)?;
+        self.fronts.reserve(more as usize * MOST_EXTENTS)?;
         Ok(())
     }
 
@@ -70,6 +86,28 @@ impl Spread {
         between(self.spans.as_slice(), from, to)
     }
 
+    /// Whether no span has one of so many bytes of a volume from a start on, found by halving: so it is where those that begin before
+    /// the end of these bytes all end by the start.
+    pub(crate) fn is_free(&self, volume: u8, start: u32, bytes: u64) -> bool
+        ensures { result ≡ list_all (is_outside start bytes) (filter (is_on volume) self.now.spans) }
+    {
+        let place = first_behind(self.spans.as_slice(), volume, start as u128 + bytes as u128);
+        front_on(volume, front_before(self.fronts.as_slice(), place)).reach <= start as u128
+    }
+
+    /// Up to where the spans of a volume follow on one another, and the spans behind, found by halving.
+    pub(crate) fn packed_on(&self, volume: u8) -> Packed<'_>
+        ensures from { result.from ≡ packed_to 0 (filter (is_on volume) self.now.spans) }
+        ensures rest { result.rest.now ≡ behind_packed 0 (filter (is_on volume) self.now.spans) }
+    {
+        let place = first_parted(self.fronts.as_slice(), volume);
+        let to = first_above(self.spans.as_slice(), volume);
+        Packed {
+            from: front_on(volume, front_before(self.fronts.as_slice(), place)).reach,
+            rest: between(self.spans.as_slice(), place, to),
+        }
+    }
+
     /// Puts a span at its place. There is room for it.
     fn file(&mut self, span: Span)
         requires { 0 < self.old.room }
@@ -77,10 +115,23 @@ impl Spread {
         ensures room { self.old.room ≤ self.new.room + 1 }
     {
         let place = place_of(self.spans.as_slice(), &span);
+        let was = front_before(self.fronts.as_slice(), place);
+        let now = front_after(was, &span);
         match self.spans.insert(place, span) {
             Ok(()) => {}
             Err(_) => unreachable!(),
         }
+        match self.fronts.insert(place, now) {
+            Ok(()) => {}
+            Err(_) => unreachable!(),
+        }
+        renew(
+            self.spans.as_slice(),
+            self.fronts.as_mut_slice(),
+            place + 1,
+            was,
+            now,
+        );
     }
 
     /// Puts the spans of a part at their places. There is room for them.
@@ -112,7 +163,16 @@ impl Spread {
     {
         match place_of_same(self.spans.as_slice(), &span) {
             Some(place) => {
+                let now = front_before(self.fronts.as_slice(), place);
                 let _ = self.spans.remove(place);
+                let was = self.fronts.remove(place);
+                renew(
+                    self.spans.as_slice(),
+                    self.fronts.as_mut_slice(),
+                    place,
+                    was,
+                    now,
+                );
             }
             None => {}
         }
@@ -206,6 +266,22 @@ fn first_above(spans: &[Span], volume: u8) -> usize
     ensures bound { result ≤ length spans.now }
 {
     spans.partition_point(|span| span.volume <= volume)
+}
+
+/// The place of the first span that begins at this byte of a volume or behind it, found by halving.
+fn first_behind(spans: &[Span], volume: u8, end: u128) -> usize
+    requires { IsTrue (rises spans.now) }
+    ensures place { result ≡ lead (begins_before volume end) spans.now }
+    ensures bound { result ≤ length spans.now }
+{
+    spans.partition_point(|span| begins_before(volume, end, span))
+}
+
+/// Whether a span begins on a lower volume, or on this one before this byte.
+fn begins_before(volume: u8, end: u128, span: &Span) -> bool
+    ensures { result ≡ begins_before volume end span.now }
+{
+    span.volume < volume || span.volume == volume && (span.start as u128) < end
 }
 
 /// The spans from one place up to another one.

@@ -15,7 +15,7 @@ ghost use Rattle.ckr_points_follows.specs.declared.stretches.Stretch.{Stretch as
 use crate::items::parts_for;
 use crate::placements::{PlacedNow, is_made};
 use crate::stretches::{
-    Stretch, all_apart, are_inside, gathered, is_clear, lists_apart, records_in,
+    Stretch, all_apart, are_inside, bytes_in, gathered, lists_apart, records_in,
 };
 use ckr_events::Made;
 use ckr_jcl::Dd;
@@ -79,11 +79,12 @@ fn stands_in(layout: &Layout, one: &PlacedNow<'_>, items: &[Made], stretches: &[
     are_standing(layout, one, items, stretches, space_for(one.dd))
 }
 
-/// Whether a stretch has no byte of the data sets of the tables.
+/// Whether a stretch has no byte of the data sets of the tables. A look-up halves.
 fn is_clear_of_sets(tables: &Tables, lrecl: u16, stretch: &Stretch) -> bool
     ensures { result ≡ clears tables.now.desk.sets lrecl (stretch_now stretch.now) }
 {
-    is_clear(lrecl, stretch, tables.library().spans_on(stretch.volume))
+    let library = tables.library();
+    stretch.records == 0 || library.is_free(stretch.volume, stretch.start, bytes_in(lrecl, stretch))
 }
 
 /// Whether stretches have no byte of the data sets of the tables.

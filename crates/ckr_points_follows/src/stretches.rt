@@ -1,15 +1,13 @@
 //! Where the data sets that a step makes lie.
-ghost use Rattle.std.specs.Prelude.{◌≡◌, ◌+◌, ◌≤◌, ◌++◌, length, map};
+ghost use Rattle.std.specs.Prelude.{◌≡◌, ◌+◌, ◌*◌, ◌^◌, ◌<◌, ◌≤◌, ◌++◌, length, map};
 ghost use Rattle.std.specs.List.{list_all};
 ghost use Rattle.ckr_volumes.specs.Places.{end_of};
 ghost use Rattle.ckr_volumes.specs.Layouts.{are_apart, is_inside};
-ghost use Rattle.ckr_points_follows.specs.Clearance.{is_clear_of};
 ghost use Rattle.ckr_points_follows.specs.Stretches.{apart_from, each_apart, gathered, records_of_all, stretch_in, stretch_now};
 ghost use Rattle.ckr_points_follows.specs.declared.stretches.Stretch.{Stretch as StretchNow};
 
 use arrayvec::ArrayVec;
 use ckr_events::{Made, Piece};
-use ckr_library::Span;
 use ckr_volumes::{Volume, bytes_of};
 
 /// Records that stand next to each other, with their volume.
@@ -63,11 +61,19 @@ pub(crate) fn records_in(stretches: &[Stretch]) -> u64
     records
 }
 
+/// How many bytes a stretch has.
+pub(crate) fn bytes_in(lrecl: u16, stretch: &Stretch) -> u64
+    ensures value { result ≡ stretch.now.records * lrecl }
+    ensures bound { result < 2 ^ 48 }
+{
+    u64::from(stretch.records) * u64::from(lrecl)
+}
+
 /// The byte behind a stretch, on its volume.
 fn end_of(lrecl: u16, stretch: &Stretch) -> u64
     ensures { result ≡ end_of lrecl (stretch_now stretch.now) }
 {
-    u64::from(stretch.start) + u64::from(stretch.records) * u64::from(lrecl)
+    u64::from(stretch.start) + bytes_in(lrecl, stretch)
 }
 
 /// Whether a stretch is inside its volume, which is there.
@@ -128,21 +134,4 @@ pub(crate) fn all_apart(lrecl: u16, stretches: &[Stretch]) -> bool
         [] => true,
         [one, rest @ ..] => is_apart(lrecl, lrecl, one, rest) && all_apart(lrecl, rest),
     }
-}
-
-/// Whether a stretch has no byte of a span of its volume.
-fn is_clear_of(lrecl: u16, one: &Stretch, span: &Span) -> bool
-    ensures { result ≡ is_clear_of lrecl (stretch_now one.now) span.now }
-{
-    one.records == 0
-        || span.bytes == 0
-        || end_of(lrecl, one) <= u64::from(span.start)
-        || u128::from(span.start) + u128::from(span.bytes) <= u128::from(one.start)
-}
-
-/// Whether a stretch has no byte of these spans of its volume.
-pub(crate) fn is_clear(lrecl: u16, one: &Stretch, spans: &[Span]) -> bool
-    ensures { result ≡ list_all (is_clear_of lrecl (stretch_now one.now)) spans.now }
-{
-    spans.iter().all(|span| is_clear_of(lrecl, one, span))
 }

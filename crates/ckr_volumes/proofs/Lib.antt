@@ -1,6 +1,7 @@
 pub mod Headers
 pub mod Allocation
 pub mod Holes
+pub mod PackedHoles
 pub mod Walks
 pub mod HeaderSpelling
 pub mod HeaderReads

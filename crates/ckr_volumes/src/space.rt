@@ -21,7 +21,8 @@ pub(crate) struct Hole {
 
 /// One extent for a new part on a volume, at the front of the lowest hole that holds the space. A hole is a largest
 /// run of the volume's bytes that lies in no extent; its records are its bytes divided by the record length, rounded
-/// down. It looks once at each extent on the volume, and takes no memory (this project's profile).
+/// down. It looks once at each extent on the volume behind the first hole, at none before it, and takes no memory (this
+/// project's profile).
 ///
 /// `NoSpace`: exactly where the largest hole has fewer records than the space.
 pub fn allocate(
@@ -61,8 +62,7 @@ fn at_lowest(
     ensures made { IfOk result (λ extents. allocated layout.now library.now volume lrecl space ≡ Ok extents.items) }
     ensures refused { IfErr result (λ cause. allocated layout.now library.now volume lrecl space ≡ Err cause) }
 {
-    let end = bytes_of(layout.volumes.as_slice(), volume);
-    let start = lowest(library.spans_on(volume), end, lrecl, space)?;
+    let start = lowest_on(layout, library, volume, lrecl, space)?;
     let mut extents = ArrayVec::new();
     extents.push(Extent {
         start,
@@ -71,15 +71,34 @@ fn at_lowest(
     Ok(extents)
 }
 
-/// Where the lowest hole between the spans begins that holds the space.
-fn lowest(spans: &[Span], end: u32, lrecl: u16, space: u32) -> Result<u32, NoSpace>
+/// Where the lowest hole of a volume begins that holds the space.
+fn lowest_on(
+    layout: &Layout,
+    library: &Library,
+    volume: u8,
+    lrecl: u16,
+    space: u32,
+) -> Result<u32, NoSpace>
     requires lrecl { 1 ≤ lrecl }
     requires space { 1 ≤ space }
-    requires inside { IsTrue (list_all (ends_by end) spans.now) }
-    ensures made { IfOk result (λ start. placed_in lrecl space (holes_from 0 end spans.now) ≡ Ok (record { start = start; records = space } ∷ [])) }
-    ensures refused { IfErr result (λ cause. placed_in lrecl space (holes_from 0 end spans.now) ≡ Err cause) }
+    requires stand { EachEntry (λ (h : Holding). StandsIn layout.now h.set) library.now.sets }
+    ensures made { IfOk result (λ start. allocated layout.now library.now volume lrecl space ≡ Ok (record { start = start; records = space } ∷ [])) }
+    ensures refused { IfErr result (λ cause. allocated layout.now library.now volume lrecl space ≡ Err cause) }
 {
-    let mut from = 0;
+    let end = bytes_of(layout.volumes.as_slice(), volume);
+    let packed = library.packed_on(volume);
+    lowest(packed.from as u64, packed.rest, end, lrecl, space)
+}
+
+/// Where the lowest hole from this byte on, between the spans, begins that holds the space.
+fn lowest(mut from: u64, spans: &[Span], end: u32, lrecl: u16, space: u32) -> Result<u32, NoSpace>
+    requires lrecl { 1 ≤ lrecl }
+    requires space { 1 ≤ space }
+    requires from { from ≤ end }
+    requires inside { IsTrue (list_all (ends_by end) spans.now) }
+    ensures made { IfOk result (λ start. placed_in lrecl space (holes_from from end spans.now) ≡ Ok (record { start = start; records = space } ∷ [])) }
+    ensures refused { IfErr result (λ cause. placed_in lrecl space (holes_from from end spans.now) ≡ Err cause) }
+{
     let mut free = 0;
     for span in spans {
         if span.bytes == 0 {

@@ -4,21 +4,26 @@ use Rattle.std.specs.List.{list_all}
 use Rattle.std.proofs.Math.Nat.{mul-le-mul_right}
 use Rattle.std.proofs.lemmas.Bool.Decides.{nat_tests}
 use Rattle.std.proofs.lemmas.List.Folds.{list_all-append}
-use Rattle.ckr_base.proofs.Bools.{and-assoc}
+use Rattle.ckr_base.proofs.Bools.{and-assoc, or-true}
 use Rattle.ckr_library.specs.declared.sets.DataSet.{DataSet}
 use Rattle.ckr_library.specs.declared.sets.Extent.{Extent}
 use Rattle.ckr_library.specs.declared.sets.Part.{Part}
 use Rattle.ckr_library.specs.declared.spread.Span.{Span}
 use Rattle.ckr_library.specs.Catalog.{Holding}
 use Rattle.ckr_library.specs.NameMaps.{EachEntry, Named}
-use Rattle.ckr_library.specs.Spread.{filed, filed_all, is_before, is_on, span_of, spans_of, spans_of_all, spans_of_part, spread_on}
+use Rattle.ckr_library.specs.Spread.{filed, filed_all, is_before, is_on, is_outside, span_of, spans_of, spans_of_all, spans_of_part, spread_on}
 use Rattle.ckr_points.specs.Follows.{lies_clear}
 use Rattle.ckr_points.specs.Rows.{TableSet, holding_of}
 use Rattle.ckr_points_tables.specs.View.{seen_by}
 use Rattle.ckr_volumes.specs.Places.{StretchModel, end_of, stretch_on, stretches_of, stretches_of_part}
 use Rattle.ckr_volumes.specs.Layouts.{are_apart}
-use Rattle.ckr_points_follows.specs.Clearance.{clears, is_clear_of}
+use Rattle.ckr_points_follows.specs.Clearance.{clears}
 use Rattle.ckr_points_follows.proofs.Lists.{all-filtered, all-turned, and-swap}
+
+-- a stretch has no byte of a span of its volume
+abbrev pub is_clear_of : ℕ → StretchModel → Span → Bool
+is_clear_of lrecl one span =
+    (one.records == 0 || span.bytes == 0) || (nat_le (end_of lrecl one) span.start || nat_le (span.start + span.bytes) one.start)
 
 -- ---- a test of all spans
 
@@ -93,6 +98,43 @@ spread-clears sets tables is lrecl one wide =
     each [] wide = refl
     each (entry ∷ some) wide =
         λ i. set-spans entry.1.set.lrecl test (are_apart lrecl entry.1.set.lrecl one) (one-same lrecl entry.1.set.lrecl one wide.0) entry.1.set.parts.items i && each some wide.1 i
+
+-- a stretch is clear of spans where it has no records, or its bytes are outside each of them
+free-clears : (lrecl : ℕ) (one : StretchModel) (spans : List Span) → (one.records == 0 || list_all (is_outside one.start (one.records * lrecl)) spans) ≡ list_all (is_clear_of lrecl one) spans
+free-clears lrecl one [] = or-true (one.records == 0)
+free-clears lrecl one (span ∷ spans) =
+    apart (one.records == 0) (is_outside one.start (one.records * lrecl) span) (list_all (is_outside one.start (one.records * lrecl)) spans)
+    ∙ (λ i. shape (one.records == 0) (span.bytes == 0) (nat_le (span.start + span.bytes) one.start) (nat_le (end_of lrecl one) span.start) i && free-clears lrecl one spans i)
+  where
+    apart : (a b c : Bool) → (a || (b && c)) ≡ ((a || b) && (a || c))
+    apart true b c = refl
+    apart false b c = refl
+
+    shape : (a b c d : Bool) → (a || (b || (c || d))) ≡ ((a || b) || (d || c))
+    shape true b c d = refl
+    shape false true c d = refl
+    shape false false true true = refl
+    shape false false true false = refl
+    shape false false false true = refl
+    shape false false false false = refl
+
+-- a stretch of no records is clear of any
+pub clear-none : (lrecl : ℕ) (one : StretchModel) (spans : List Span) → one.records ≡ 0 → (one.records == 0) ≡ list_all (is_clear_of lrecl one) spans
+clear-none lrecl one spans none =
+    let zero : (one.records == 0) ≡ true = tests one.records none in
+    zero ∙ sym (ap (λ b. b || list_all (is_outside one.start (one.records * lrecl)) spans) zero) ∙ free-clears lrecl one spans
+  where
+    tests : (n : ℕ) → n ≡ 0 → (n == 0) ≡ true
+    tests n e = grind (arith, nat_tests)
+
+-- and another one where its bytes are outside each
+pub clear-some : (lrecl : ℕ) (one : StretchModel) (spans : List Span) → (one.records ≡ 0 → ⊥) → (bytes : ℕ) → bytes ≡ one.records * lrecl → (free : Bool) → free ≡ list_all (is_outside one.start bytes) spans → free ≡ list_all (is_clear_of lrecl one) spans
+clear-some lrecl one spans some bytes is free tells =
+    let more : (one.records == 0) ≡ false = tests one.records some in
+    tells ∙ ap (λ n. list_all (is_outside one.start n) spans) is ∙ sym (ap (λ b. b || list_all (is_outside one.start (one.records * lrecl)) spans) more) ∙ free-clears lrecl one spans
+  where
+    tests : (n : ℕ) → (n ≡ 0 → ⊥) → (n == 0) ≡ false
+    tests n e = grind (arith, nat_tests)
 
 -- a data set lies clear where each of its stretches does
 pub clear-stretches : (sets : Named TableSet) (set : DataSet) → lies_clear sets set ≡ list_all (clears sets set.lrecl) (stretches_of set)
