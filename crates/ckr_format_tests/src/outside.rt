@@ -1,10 +1,10 @@
 //! Objects of the outside that fail in mid-stream, and a disk in a real file.
-ghost use Rattle.std.specs.Prelude.{◌≤◌, length};
+ghost use Rattle.std.specs.Prelude.{◌≡◌, ◌≤◌, ◌+◌, length};
 ghost use Rattle.ckr_outside.specs.MemDisk.{content_of};
 
 use ckr_outside::{
-    CallKind, Disk, DiskCall, FileDisk, MemDisk, MemSink, MemSource, Sink, Source, StdSink,
-    StdSource, put_all,
+    CallKind, Disk, DiskCall, FileDisk, MemDisk, MemSink, MemSource, ReadAhead, Sink, Source,
+    StdSink, StdSource, put_all,
 };
 use std::fs::{self, File};
 use std::io::{self, ErrorKind, Read, Write};
@@ -185,5 +185,50 @@ fn listed_calls_of_a_disk_fail_and_all_are_recorded(rt: HostRuntime) -> Result<(
     assert!(rt; are_answered(&mut disk));
     assert!(rt; (disk.faults(), disk.lacks()) == (2, 0));
     assert!(rt; disk.calls() == CALLS.as_slice());
+    Ok(())
+}
+
+/// These bytes are written at a place of a disk.
+fn is_written<D: Disk>(disk: &mut D, at: u64, bytes: &[u8]) -> bool
+    requires { at + length bytes.now ≤ D.size disk.old }
+    ensures { D.size disk.new ≡ D.size disk.old }
+{
+    disk.write_at(at, bytes).is_ok()
+}
+
+/// A disk reads these four bytes at a place.
+fn is_read<D: Disk>(disk: &mut D, at: u64, wanted: &[u8]) -> bool
+    requires { at + 4 ≤ D.size disk.old }
+    ensures { D.size disk.new ≡ D.size disk.old }
+{
+    let mut buf = [0; 4];
+    disk.read(at, &mut buf).is_ok() && buf.as_slice() == wanted
+}
+
+/// What is read one behind the other is what was written last, before and behind what was read already.
+fn is_as_written<D: Disk>(disk: &mut D) -> bool
+    requires { 16 ≤ D.size disk.old }
+{
+    is_written(disk, 0, b"ABCDEFGHIJKL")
+        && is_read(disk, 0, b"ABCD")
+        && is_read(disk, 4, b"EFGH")
+        && is_written(disk, 2, b"cdef")
+        && is_written(disk, 10, b"kl")
+        && is_read(disk, 8, b"IJkl")
+        && is_read(disk, 12, &[0; 4])
+        && is_read(disk, 0, b"ABcd")
+        && is_read(disk, 4, b"efGH")
+}
+
+#[test]
+fn a_disk_that_is_read_ahead_reads_what_was_written(rt: HostRuntime) -> Result<(), Fail> {
+    let disk = MemDisk::new(rt.alloc(), 100_000, Vec::new(rt.alloc()), None)?;
+    let mut ahead = ReadAhead::new(rt.alloc(), disk);
+    assert!(rt; is_as_written(&mut ahead));
+    let mut short = ReadAhead::new(
+        rt.alloc(),
+        MemDisk::new(rt.alloc(), 16, Vec::new(rt.alloc()), None)?,
+    );
+    assert!(rt; is_as_written(&mut short));
     Ok(())
 }
