@@ -1,35 +1,26 @@
 -- Items picked in an order (picked-), orders whose places are apart (apart-), and what a change of an item or of the order does.
-use Rattle.std.proofs.Common.{◌≡◌, ◌≢◌, ◌==◌, ℕ, zero, suc, ◌+◌, ◌<◌, ◌≤◌, Bool, true, false, cond, not, IsTrue, List, [], ◌∷◌, ◌++◌, length, refl, ap, sym, ◌∙◌, subst, Option, Some, None, slice_get, slice_set, slice_index_or, arith, insert, remove, T, IsSome, IsSomeAnd}
-use Rattle.std.specs.declared.cmp.Ordering.TheVariants.{Equal}
+use Rattle.std.proofs.Common.{◌≡◌, ◌≢◌, ◌==◌, ℕ, zero, suc, ◌+◌, ◌<◌, ◌≤◌, Bool, cond, not, List, [], ◌∷◌, ◌++◌, length, refl, ap, sym, ◌∙◌, subst, Some, None, slice_get, slice_set, slice_index_or, arith, insert, remove, T}
 use Rattle.std.specs.Ordering.{is_gt}
 use Rattle.std.specs.List.{AllByRecursion, cons_option, position_or_len}
 use Rattle.std.specs.List.Sorted.{IsPartitionedBy}
 use Rattle.std.specs.FinMap.Entries.{below_all, is_sorted}
-use Rattle.std.specs.Option.{option_map}
 use Rattle.std.proofs.lemmas.Option.{same_Some}
 use Rattle.ckr_base.proofs.Bools.{T-and-first, T-and-second, T-from-true, bool-cases}
 use Rattle.ckr_base.proofs.Numbers.{equal-false, equal-true, is_eq-true, one-plus}
 use Rattle.ckr_base.proofs.Options.{some-not-none}
-use Rattle.ckr_base.proofs.Sequences.{each-get, each-implies, get-from, get-set-other, get-set-same}
+use Rattle.ckr_base.proofs.Sequences.{each-get, each-implies, get-set-other, get-set-same}
 use Rattle.ckr_library.specs.declared.shelf.Held.{Held}
-use Rattle.ckr_library.specs.declared.sets.DataSet.{DataSet}
-use Rattle.ckr_library.specs.Catalog.{Holding}
-use Rattle.ckr_library.specs.NameMaps.{Name, Named, name_cmp, entry_at, with_changed}
+use Rattle.ckr_library.specs.NameMaps.{Name, name_cmp}
 use Rattle.ckr_library.specs.Places.{lead}
-use Rattle.ckr_library.specs.Shelves.{holding_of, entries_of, place_in, picked, is_above_at, AreInside}
+use Rattle.ckr_library.specs.Shelves.{entries_of, place_in, picked, is_above_at, AreInside}
 use Rattle.ckr_library.proofs.Named.{name-itself}
 use Rattle.ckr_library.proofs.OrderedLists.{not_less}
-use Rattle.ckr_library.proofs.Shelves.{Rise, changed, parted_by_name, place_inside}
+use Rattle.ckr_library.proofs.Shelves.{Rise, parted_by_name}
 
 get-there : (items : List Held) (i : ℕ) → i < length items → (item : Held) × (slice_get items i ≡ Some item)
 get-there [] i inside = absurd (omega (arith, inside))
 get-there (item ∷ items) zero inside = (item, refl)
 get-there (item ∷ items) (suc i) inside = get-there items i (omega (arith, inside))
-
-pub read-got : (items : List Held) (i : ℕ) (item d : Held) → slice_get items i ≡ Some item → item ≡ slice_index_or items i d
-read-got [] i item d at = absurd (some-not-none item (sym at))
-read-got (first ∷ items) zero item d at = sym (same_Some first item at)
-read-got (first ∷ items) (suc i) item d at = read-got items i item d at
 
 get-front : (items more : List Held) (i : ℕ) → i < length items → slice_get (items ++ more) i ≡ slice_get items i
 get-front [] more i inside = absurd (omega (arith, inside))
@@ -43,11 +34,6 @@ get-end (first ∷ items) item = get-end items item
 length-end : (items : List Held) (item : Held) → length (items ++ item ∷ []) ≡ suc (length items)
 length-end [] item = refl
 length-end (first ∷ items) item = ap suc (length-end items item)
-
-pub length-set : (items : List Held) (i : ℕ) (item : Held) → length (slice_set items i item) ≡ length items
-length-set [] i item = refl
-length-set (first ∷ items) zero item = refl
-length-set (first ∷ items) (suc i) item = ap suc (length-set items i item)
 
 picked-head : (items : List Held) (i : ℕ) (order : List ℕ) (item : Held) → slice_get items i ≡ Some item → picked (i ∷ order) items ≡ item ∷ picked order items
 picked-head items i order item at = ap (λ found. cons_option found (picked order items)) at

@@ -1,5 +1,5 @@
 -- How the items of a library, in the order of their names, are read as its catalog.
-use Rattle.std.specs.Prelude.{ℕ, ◌-◌, ◌<◌, Bool, false, List, map, slice_get, Option, Some, None, vec_len, vec_capacity}
+use Rattle.std.specs.Prelude.{◌≡◌, ℕ, ◌-◌, ◌<◌, Bool, false, IsTrue, List, length, map, slice_get, Option, Some, None, vec_len, vec_capacity}
 use Rattle.std.specs.List.{AllByRecursion, filter_map}
 use Rattle.std.specs.Ordering.{is_gt}
 use Rattle.std.specs.FinMap.Entries.{is_sorted}
@@ -40,6 +40,12 @@ picked order items = filter_map (slice_get items) order
 -- each of these places has one of so many items
 abbrev pub AreInside : List ℕ → ℕ → Type 0
 AreInside order count = AllByRecursion (λ place. place < count) order
+
+-- the items and an order that has the place of each of them, in ascending order of their names
+pub record AreShelved (order : List ℕ) (items : List Held) : Type 0 where
+  pub count : length order ≡ length items
+  pub inside : AreInside order (length items)
+  pub rise : IsTrue (are_in_order (picked order items))
 
 -- whether a name stands above that of an item, if there is one
 abbrev pub is_above_at : Name → Option Held → Bool

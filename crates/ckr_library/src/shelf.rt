@@ -5,7 +5,7 @@ ghost use Rattle.std.specs.Option.{option_copied, option_map};
 ghost use Rattle.std.specs.Ordering.{is_gt, is_eq};
 ghost use Rattle.ckr_library.specs.Catalog.{set_of, ends_within, entry_room, fresh_holding, with_catalog, with_kept, with_length, with_stamp, HasSet, KeepsEntryRoom};
 ghost use Rattle.ckr_library.specs.NameMaps.{name_cmp, are_named_in_order, names_of, entry_at, with_entry, without_entry, with_changed};
-ghost use Rattle.ckr_library.specs.Shelves.{holding_of, entries_of, are_in_order, place_in, room_of, picked, is_above_at, AreInside};
+ghost use Rattle.ckr_library.specs.Shelves.{holding_of, entries_of, place_in, room_of, picked, is_above_at, AreShelved};
 
 use crate::{DataSet, Kept, Stamp};
 use ckr_base::{DsName, NoMemory};
@@ -30,16 +30,16 @@ pub(crate) struct Shelf {
 }
 
 impl Model for Shelf {
-    ghost use Rattle.std.specs.Prelude.{◌-◌, IsTrue, length, min, vec_len, vec_capacity};
+    ghost use Rattle.std.specs.Prelude.{◌-◌, min, vec_len, vec_capacity};
     ghost use Rattle.ckr_library.specs.Catalog.{Catalog};
 
     ghost Value = { Catalog };
 
-    ghost use Rattle.ckr_library.specs.Shelves.{entries_of, rooms_of, are_in_order, picked, AreInside};
+    ghost use Rattle.ckr_library.specs.Shelves.{entries_of, rooms_of, picked, AreShelved};
 
     ghost view = { λ a. record { sets = entries_of (picked a.order.items a.items.items); room = min (vec_capacity a.items - vec_len a.items) (vec_capacity a.order - vec_len a.order); entry_rooms = rooms_of (picked a.order.items a.items.items) } };
 
-    ghost invariant = { λ a. AreInside a.order.items (length a.items.items) × IsTrue (are_in_order (picked a.order.items a.items.items)) };
+    ghost invariant = { λ a. AreShelved a.order.items a.items.items };
 }
 
 impl Shelf {
@@ -261,7 +261,7 @@ fn held_at(items: &[Held], item: usize) -> Option<&Held>
 
 /// The item at a place of the order.
 fn item_at<'a>(order: &[usize], items: &'a [Held], place: usize) -> Option<&'a Held>
-    requires { AreInside order.now (length items.now) }
+    requires { AreShelved order.now items.now }
     ensures { option_copied result ≡ slice_get (picked order.now items.now) place }
 {
     match ordered_at(order, place) {
@@ -272,8 +272,7 @@ fn item_at<'a>(order: &[usize], items: &'a [Held], place: usize) -> Option<&'a H
 
 /// The place of a name in the order, found by halving.
 fn place_of(order: &[usize], items: &[Held], name: &DsName) -> usize
-    requires inside { AreInside order.now (length items.now) }
-    requires order { IsTrue (are_in_order (picked order.now items.now)) }
+    requires { AreShelved order.now items.now }
     ensures place { result ≡ place_in name.now (picked order.now items.now) }
     ensures bound { result ≤ length order.now }
 {
@@ -282,8 +281,7 @@ fn place_of(order: &[usize], items: &[Held], name: &DsName) -> usize
 
 /// Where the item of a name stands.
 fn item_of(order: &[usize], items: &[Held], name: &DsName) -> usize
-    requires inside { AreInside order.now (length items.now) }
-    requires order { IsTrue (are_in_order (picked order.now items.now)) }
+    requires shelved { AreShelved order.now items.now }
     requires there { IsSome (entry_at (entries_of (picked order.now items.now)) name.now) }
     ensures item { slice_get order.now (place_in name.now (picked order.now items.now)) ≡ Some result }
     ensures bound { result < length items.now }
@@ -293,8 +291,7 @@ fn item_of(order: &[usize], items: &[Held], name: &DsName) -> usize
 
 /// The item of a name.
 fn find<'a>(order: &[usize], items: &'a [Held], name: &DsName) -> Option<&'a Held>
-    requires inside { AreInside order.now (length items.now) }
-    requires order { IsTrue (are_in_order (picked order.now items.now)) }
+    requires { AreShelved order.now items.now }
     ensures { option_map holding_of (option_copied result) ≡ entry_at (entries_of (picked order.now items.now)) name.now }
 {
     match item_at(order, items, place_of(order, items, name)) {
@@ -316,7 +313,7 @@ fn place_with(order: &[usize], item: usize) -> Option<usize>
     order.iter().position(|other| *other == item)
 }
 
-/// The first place of the order that names one item names another one from now on. An order that doesn't name the one stays.
+/// Puts another item where the order names one first. An order that doesn't name it stays.
 fn renumber(order: &mut Vec<usize>, old: usize, new: usize)
     ensures items { order.new.items ≡ slice_set order.old.items (position_or_len (λ other. other == old) order.old.items) new }
     ensures bound { vec_len order.new ≡ vec_len order.old }

@@ -1,4 +1,4 @@
-use Rattle.std.proofs.Common.{ℕ, rules, ap, sym, ◌∙◌, slice_get}
+use Rattle.std.proofs.Common.{ℕ, rules, ◌∙◌, slice_get}
 use Rattle.std.proofs.lemmas.List.Sorted.{IsPartitionPoint-from_clause}
 use Rattle.ckr_library.specs.Shelves.{is_above_at}
 use Rattle.ckr_library.proofs.ItemOrders.{picked-lead, picked-parted}
@@ -10,5 +10,5 @@ returns-clause-place c =
     let lower = λ (item : ℕ). is_above_at c.args.name.now (slice_get c.args.items.now item) in
     lead-point lower c.args.order.now c.partition_point.result c.partition_point.ensures.bound (
     IsPartitionPoint-from_clause lower c.args.order.now c.partition_point.result c.partition_point.ensures.partitioned
-    (picked-parted c.args.name.now c.args.order.now c.args.items.now c.requires.inside c.requires.order) (λ a r f' called. search rules))
+    (picked-parted c.args.name.now c.args.order.now c.args.items.now c.requires.inside c.requires.rise) (λ a r f' called. search rules))
     ∙ picked-lead c.args.name.now c.args.order.now c.args.items.now c.requires.inside
