@@ -1,5 +1,7 @@
 pub mod EntryRooms
 pub mod Filings
+pub mod ItemEdits
+pub mod ItemOrders
 pub mod Laws
 pub mod Named
 pub mod OrderedLists

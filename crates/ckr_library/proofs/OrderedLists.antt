@@ -13,7 +13,7 @@ use Rattle.ckr_base.proofs.Bools.{T-and-first, T-and-second}
 use Rattle.ckr_base.proofs.Options.{some-not-none}
 use Rattle.ckr_library.specs.Places.{lead}
 
-not_less : (r : Ordering) → r ≡ Equal → T (is_lt r) → ⊥
+pub not_less : (r : Ordering) → r ≡ Equal → T (is_lt r) → ⊥
 not_less r e low = subst (λ s. T (is_lt s)) e low
 
 pub less : (o : Ordering) → T (is_lt o) → o ≡ Less

@@ -1,5 +1,6 @@
--- How the items of a library are read as its catalog.
-use Rattle.std.specs.Prelude.{ℕ, ◌-◌, Bool, List, map, vec_len, vec_capacity}
+-- How the items of a library, in the order of their names, are read as its catalog.
+use Rattle.std.specs.Prelude.{◌≡◌, ℕ, ◌-◌, ◌<◌, Bool, false, IsTrue, List, length, map, slice_get, Option, Some, None, vec_len, vec_capacity}
+use Rattle.std.specs.List.{AllByRecursion, filter_map}
 use Rattle.std.specs.Ordering.{is_gt}
 use Rattle.std.specs.FinMap.Entries.{is_sorted}
 use Rattle.ckr_library.specs.declared.shelf.Held.{Held}
@@ -31,3 +32,22 @@ are_in_order items = is_sorted name_cmp (entries_of items)
 -- the place of a name: before it stand the lower names alone
 abbrev pub place_in : Name → List Held → ℕ
 place_in name items = lead (λ (held : Held). is_gt (name_cmp name held.name)) items
+
+-- the items at these places, in this order
+abbrev pub picked : List ℕ → List Held → List Held
+picked order items = filter_map (slice_get items) order
+
+-- each of these places has one of so many items
+abbrev pub AreInside : List ℕ → ℕ → Type 0
+AreInside order count = AllByRecursion (λ place. place < count) order
+
+-- the items and an order that has the place of each of them, in ascending order of their names
+pub record AreShelved (order : List ℕ) (items : List Held) : Type 0 where
+  pub count : length order ≡ length items
+  pub inside : AreInside order (length items)
+  pub rise : IsTrue (are_in_order (picked order items))
+
+-- whether a name stands above that of an item, if there is one
+abbrev pub is_above_at : Name → Option Held → Bool
+is_above_at name None = false
+is_above_at name (Some held) = is_gt (name_cmp name held.name)

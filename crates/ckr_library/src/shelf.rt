@@ -1,10 +1,11 @@
-//! The data sets in the order of their names.
-ghost use Rattle.std.specs.Prelude.{◌≡◌, ◌+◌, ◌<◌, ◌≤◌, [], None, Some, IsOk, IsTrue, OnOk, OnErr, length, slice_get, filter, vec_len, vec_capacity};
+//! The data sets, and beside them their places in the order of their names: an insert moves places, and no data set.
+ghost use Rattle.std.specs.Prelude.{◌≡◌, ◌==◌, ◌+◌, ◌<◌, ◌≤◌, [], None, Some, IsOk, IsSome, IsTrue, OnOk, OnErr, length, slice_get, slice_set, filter, position, vec_len, vec_capacity};
+ghost use Rattle.std.specs.List.{position_or_len};
 ghost use Rattle.std.specs.Option.{option_copied, option_map};
 ghost use Rattle.std.specs.Ordering.{is_gt, is_eq};
 ghost use Rattle.ckr_library.specs.Catalog.{set_of, ends_within, entry_room, fresh_holding, with_catalog, with_kept, with_length, with_stamp, HasSet, KeepsEntryRoom};
 ghost use Rattle.ckr_library.specs.NameMaps.{name_cmp, are_named_in_order, names_of, entry_at, with_entry, without_entry, with_changed};
-ghost use Rattle.ckr_library.specs.Shelves.{holding_of, entries_of, are_in_order, place_in, room_of};
+ghost use Rattle.ckr_library.specs.Shelves.{holding_of, entries_of, place_in, room_of, picked, is_above_at, AreShelved};
 
 use crate::{DataSet, Kept, Stamp};
 use ckr_base::{DsName, NoMemory};
@@ -22,20 +23,23 @@ pub(crate) struct Held {
 /// The data sets, each under its name, in ascending order of the names.
 #[derive(Drop)]
 pub(crate) struct Shelf {
+    /// The data sets, in no order.
     items: Vec<Held>,
+    /// The places of the items, in ascending order of their names.
+    order: Vec<usize>,
 }
 
 impl Model for Shelf {
-    ghost use Rattle.std.specs.Prelude.{◌-◌, IsTrue, vec_len, vec_capacity};
+    ghost use Rattle.std.specs.Prelude.{◌-◌, min, vec_len, vec_capacity};
     ghost use Rattle.ckr_library.specs.Catalog.{Catalog};
 
     ghost Value = { Catalog };
 
-    ghost use Rattle.ckr_library.specs.Shelves.{entries_of, rooms_of, are_in_order};
+    ghost use Rattle.ckr_library.specs.Shelves.{entries_of, rooms_of, picked, AreShelved};
 
-    ghost view = { λ a. record { sets = entries_of a.items.items; room = vec_capacity a.items - vec_len a.items; entry_rooms = rooms_of a.items.items } };
+    ghost view = { λ a. record { sets = entries_of (picked a.order.items a.items.items); room = min (vec_capacity a.items - vec_len a.items) (vec_capacity a.order - vec_len a.order); entry_rooms = rooms_of (picked a.order.items a.items.items) } };
 
-    ghost invariant = { λ a. IsTrue (are_in_order a.items.items) };
+    ghost invariant = { λ a. AreShelved a.order.items a.items.items };
 }
 
 impl Shelf {
@@ -45,6 +49,7 @@ impl Shelf {
     {
         Shelf {
             items: Vec::new(alloc),
+            order: Vec::new(alloc),
         }
     }
 
@@ -52,7 +57,7 @@ impl Shelf {
     pub(crate) fn find(&self, name: &DsName) -> Option<&Held>
         ensures { option_map holding_of (option_copied result) ≡ entry_at self.now.sets name.now }
     {
-        find(self.items.as_slice(), name)
+        find(self.order.as_slice(), self.items.as_slice(), name)
     }
 
     /// The name at a place in ascending order, counted from 0.
@@ -60,7 +65,7 @@ impl Shelf {
         ensures name { option_copied result ≡ slice_get (names_of self.now.sets) place }
         ensures order { IsTrue (are_named_in_order self.now.sets) }
     {
-        match item_at(self.items.as_slice(), place as usize) {
+        match item_at(self.order.as_slice(), self.items.as_slice(), place as usize) {
             Some(held) => Some(&held.name),
             None => None,
         }
@@ -75,6 +80,7 @@ impl Shelf {
         ensures entries { KeepsEntryRoom self.old self.new }
     {
         self.items.reserve(more as usize)?;
+        self.order.reserve(more as usize)?;
         Ok(())
     }
 
@@ -85,9 +91,13 @@ impl Shelf {
         ensures sets { self.new.sets ≡ with_entry name (fresh_holding set) self.old.sets }
         ensures room { self.old.room ≤ self.new.room + 1 }
     {
-        let place = place_of(self.items.as_slice(), &name);
+        let place = place_of(self.order.as_slice(), self.items.as_slice(), &name);
         let kept = Vec::new(*self.items.allocator());
-        match self.items.insert(place, Held { name, set, kept }) {
+        match self.order.insert(place, self.items.len()) {
+            Ok(()) => {}
+            Err(_) => unreachable!(),
+        }
+        match self.items.push(Held { name, set, kept }) {
             Ok(()) => {}
             Err(_) => unreachable!(),
         }
@@ -101,8 +111,11 @@ impl Shelf {
         ensures sets { self.new.sets ≡ without_entry name.now self.old.sets }
         ensures room { self.old.room ≤ self.new.room }
     {
-        let place = place_of(self.items.as_slice(), name);
-        self.items.remove(place).set
+        let place = place_of(self.order.as_slice(), self.items.as_slice(), name);
+        let item = self.order.remove(place);
+        let held = self.items.swap_remove(item);
+        renumber(&mut self.order, self.items.len(), item);
+        held.set
     }
 
     /// Sets the catalog mark of a data set.
@@ -112,8 +125,8 @@ impl Shelf {
         ensures sets { self.new.sets ≡ with_changed name.now (with_catalog on) self.old.sets }
         ensures room { self.new.room ≡ self.old.room }
     {
-        let place = place_of(self.items.as_slice(), name);
-        self.items[place].set.cataloged = on;
+        let item = item_of(self.order.as_slice(), self.items.as_slice(), name);
+        self.items[item].set.cataloged = on;
     }
 
     /// Sets the stamp of a data set.
@@ -123,8 +136,8 @@ impl Shelf {
         ensures sets { self.new.sets ≡ with_changed name.now (with_stamp stamp) self.old.sets }
         ensures room { self.new.room ≡ self.old.room }
     {
-        let place = place_of(self.items.as_slice(), name);
-        self.items[place].set.stamp = stamp;
+        let item = item_of(self.order.as_slice(), self.items.as_slice(), name);
+        self.items[item].set.stamp = stamp;
     }
 
     /// Sets the length of a data set, and drops the entries that end beyond it.
@@ -135,8 +148,8 @@ impl Shelf {
         ensures room { self.new.room ≡ self.old.room }
         ensures entries { KeepsEntryRoom self.old self.new }
     {
-        let place = place_of(self.items.as_slice(), name);
-        cut(&mut self.items[place], length);
+        let item = item_of(self.order.as_slice(), self.items.as_slice(), name);
+        cut(&mut self.items[item], length);
     }
 
     /// Makes room for one more entry of a data set.
@@ -148,8 +161,8 @@ impl Shelf {
         ensures room { self.new.room ≡ self.old.room }
         ensures entries { KeepsEntryRoom self.old self.new }
     {
-        let place = place_of(self.items.as_slice(), name);
-        make_room(&mut self.items[place])
+        let item = item_of(self.order.as_slice(), self.items.as_slice(), name);
+        make_room(&mut self.items[item])
     }
 
     /// Keeps an entry of a data set, behind those that it keeps.
@@ -161,8 +174,8 @@ impl Shelf {
         ensures succeeds { 0 < entry_room self.old name.now → IsOk result }
         ensures room { self.new.room ≡ self.old.room }
     {
-        let place = place_of(self.items.as_slice(), name);
-        put(&mut self.items[place], kept)
+        let item = item_of(self.order.as_slice(), self.items.as_slice(), name);
+        put(&mut self.items[item], kept)
     }
 }
 
@@ -222,28 +235,66 @@ fn is_above(name: &DsName, other: &DsName) -> bool
     name.cmp(other).is_gt()
 }
 
-/// The item at a place.
-fn item_at(items: &[Held], place: usize) -> Option<&Held>
-    ensures { option_copied result ≡ slice_get items.now place }
+/// Whether a name stands above that of an item. Above that of no item it doesn't.
+fn is_above_at(items: &[Held], item: usize, name: &DsName) -> bool
+    ensures { result ≡ is_above_at name.now (slice_get items.now item) }
 {
-    items.get(place)
+    match held_at(items, item) {
+        Some(held) => is_above(name, &held.name),
+        None => false,
+    }
 }
 
-/// The place of a name among the items, found by halving.
-fn place_of(items: &[Held], name: &DsName) -> usize
-    requires { IsTrue (are_in_order items.now) }
-    ensures place { result ≡ place_in name.now items.now }
-    ensures bound { result ≤ length items.now }
+/// What the order has at a place: where an item stands.
+fn ordered_at(order: &[usize], place: usize) -> Option<usize>
+    ensures { result ≡ slice_get order.now place }
 {
-    items.partition_point(|held| is_above(name, &held.name))
+    order.get(place).copied()
+}
+
+/// The item that stands here.
+fn held_at(items: &[Held], item: usize) -> Option<&Held>
+    ensures { option_copied result ≡ slice_get items.now item }
+{
+    items.get(item)
+}
+
+/// The item at a place of the order.
+fn item_at<'a>(order: &[usize], items: &'a [Held], place: usize) -> Option<&'a Held>
+    requires { AreShelved order.now items.now }
+    ensures { option_copied result ≡ slice_get (picked order.now items.now) place }
+{
+    match ordered_at(order, place) {
+        Some(item) => held_at(items, item),
+        None => None,
+    }
+}
+
+/// The place of a name in the order, found by halving.
+fn place_of(order: &[usize], items: &[Held], name: &DsName) -> usize
+    requires { AreShelved order.now items.now }
+    ensures place { result ≡ place_in name.now (picked order.now items.now) }
+    ensures bound { result ≤ length order.now }
+{
+    order.partition_point(|item| is_above_at(items, *item, name))
+}
+
+/// Where the item of a name stands.
+fn item_of(order: &[usize], items: &[Held], name: &DsName) -> usize
+    requires shelved { AreShelved order.now items.now }
+    requires there { IsSome (entry_at (entries_of (picked order.now items.now)) name.now) }
+    ensures item { slice_get order.now (place_in name.now (picked order.now items.now)) ≡ Some result }
+    ensures bound { result < length items.now }
+{
+    order[place_of(order, items, name)]
 }
 
 /// The item of a name.
-fn find<'a>(items: &'a [Held], name: &DsName) -> Option<&'a Held>
-    requires { IsTrue (are_in_order items.now) }
-    ensures { option_map holding_of (option_copied result) ≡ entry_at (entries_of items.now) name.now }
+fn find<'a>(order: &[usize], items: &'a [Held], name: &DsName) -> Option<&'a Held>
+    requires { AreShelved order.now items.now }
+    ensures { option_map holding_of (option_copied result) ≡ entry_at (entries_of (picked order.now items.now)) name.now }
 {
-    match item_at(items, place_of(items, name)) {
+    match item_at(order, items, place_of(order, items, name)) {
         Some(held) => {
             if name.is_same(&held.name) {
                 Some(held)
@@ -252,5 +303,23 @@ fn find<'a>(items: &'a [Held], name: &DsName) -> Option<&'a Held>
             }
         }
         None => None,
+    }
+}
+
+/// The first place of the order that names this item.
+fn place_with(order: &[usize], item: usize) -> Option<usize>
+    ensures { result ≡ position (λ other. other == item) order.now }
+{
+    order.iter().position(|other| *other == item)
+}
+
+/// Puts another item where the order names one first. An order that doesn't name it stays.
+fn renumber(order: &mut Vec<usize>, old: usize, new: usize)
+    ensures items { order.new.items ≡ slice_set order.old.items (position_or_len (λ other. other == old) order.old.items) new }
+    ensures bound { vec_len order.new ≡ vec_len order.old }
+    ensures capacity { vec_capacity order.new ≡ vec_capacity order.old }
+{
+    if let Some(place) = place_with(order.as_slice(), old) {
+        order[place] = new;
     }
 }
