@@ -1,5 +1,8 @@
 pub mod Codes
+pub mod Plans
+pub mod CodeEvents
 pub mod Turn
+pub mod Stops
 pub mod Results
 pub mod Readiness
 pub mod Forecast

@@ -25,6 +25,10 @@ LacksAtMost layout tables (Rewritten job taken writes lengths place image) befor
     → DiffersAt layout table.set place before after
 LacksAtMost layout tables _ before after = ⊥
 
+-- each of these images is the bytes before, or lacks at most that record
+abbrev pub LackAtMost : Layout → TablesModel → Event → List ℕ → (List ℕ → Type 0) → Type 0
+LackAtMost layout tables event before images = (image : List ℕ) → images image → (image ≡ before) ⊎ LacksAtMost layout tables event before image
+
 -- an image of a stop while the record is written that an event tells, by the tables behind it
 abbrev pub IsLackingBy : {D : Type 0} → (D → List ℕ) → (D → ℕ) → Event → DeskView D → List ℕ → Type 0
 IsLackingBy content size event old image =

@@ -5,7 +5,6 @@ use Rattle.ckr_book.specs.Book.{room_of}
 use Rattle.ckr_events.specs.declared.event.Event.{Event}
 use Rattle.ckr_events.specs.Event.{event_of}
 use Rattle.ckr_desk_memory.specs.Replay.{deck_of}
-use Rattle.ckr_desk_refines.specs.Commits.{HasCommitted}
 use Rattle.ckr_desk_refines.specs.Entries.{HasEntries}
 use Rattle.ckr_outside.specs.Disk.{EachSince}
 use Rattle.ckr_points.specs.Events.{AreSound}
@@ -92,14 +91,15 @@ module _ {D : Type 0} (content : D → List ℕ) where
 
 module _ {D : Type 0} (told : Type 0) (content : D → List ℕ) (may_leave : D → List ℕ → Type 0) where
   -- The disk tells what it holds. Its events are sound and have brought about the tables; the jobs in memory stand for the desk of the events; each image has what
-  -- the events have committed; and what the disk reads has the entries that they keep, as each image has.
+  -- the events have committed, once the record is written again that the last of them tells; and what the disk reads has the entries that they keep, as each image has.
   pub record IsTrusted (desk : DeskView D) : Type 0 where
     pub tells : told
     pub opens : behind_records desk.store.layout no_tables 0 (event_records desk.store.layout (content desk.store.disk)) ≡ Ok desk.jobs.tables.desk
     pub events : AreSound desk.store.layout (events_in (event_records desk.store.layout (content desk.store.disk)))
     pub stands : StandsForDesk desk.store.layout desk.jobs (content desk.store.disk) (state_of content desk).desk
     pub last : HasLast (office_on desk.store.layout (content desk.store.disk)) (last_on desk.store.layout (content desk.store.disk))
-    pub committed : (image : List ℕ) → may_leave desk.store.disk image → HasCommitted desk.store.layout (office_on desk.store.layout (content desk.store.disk)) image
+    pub committed : (image : List ℕ) → may_leave desk.store.disk image
+        → HasCommittedAgain desk.store.layout (office_on desk.store.layout (content desk.store.disk)) (last_on desk.store.layout (content desk.store.disk)) image
     pub entries : HasEntries desk.store.layout (office_on desk.store.layout (content desk.store.disk)) (content desk.store.disk)
     pub entries_left : (image : List ℕ) → may_leave desk.store.disk image → HasEntries desk.store.layout (office_on desk.store.layout (content desk.store.disk)) image
 

@@ -33,7 +33,7 @@ use Rattle.ckr_desk.specs.declared.error.DeskError.TheVariants.{DiskFault, NoMem
 use Rattle.ckr_desk.specs.Calls.{HasGoneOn, IsLeftBy, may_keep}
 use Rattle.ckr_desk.specs.Soundness.{IsTrusted, KeepsWithin, state_of}
 use Rattle.ckr_desk.specs.State.{DeskView}
-use Rattle.ckr_desk.specs.Rewrite.{IsWrittenBy, LacksAtMost, OpensSame}
+use Rattle.ckr_desk.specs.Rewrite.{IsWrittenBy, LackAtMost, LacksAtMost, OpensSame}
 use Rattle.ckr_desk.specs.Requests.{FailsBy, came_by, spelled}
 use Rattle.ckr_desk.specs.Turn.{asks, behind_turn, event_of_turn, reply_of, turn_fits}
 
@@ -98,18 +98,19 @@ IsLeftBehind content may_leave size (Some event) old image =
 
 -- ---- behind what a turn comes to
 
--- the event is in the book, and its record, if it tells one, is written
-pub record HasWrittenBehind {D : Type 0} (content : D → List ℕ) (event : Event) (old new : DeskView D) : Type 0 where
+-- the event is in the book, and its record, if it tells one, is written, which alone a stop may leave otherwise
+pub record HasWrittenBehind {D : Type 0} (content : D → List ℕ) (may_leave : D → List ℕ → Type 0) (event : Event) (old new : DeskView D) : Type 0 where
   pub events : event_records old.store.layout (content new.store.disk) ≡ event_records old.store.layout (content old.store.disk) ++ spelling event ∷ []
   pub told_on : List ℕ
   pub same : HasSameRecords old.store.layout (content old.store.disk) told_on
   pub written : IsWrittenBy old.store.layout new.jobs.tables.desk event told_on (content new.store.disk)
+  pub left : LackAtMost old.store.layout new.jobs.tables.desk event told_on (may_leave new.store.disk)
 
 -- what a turn comes to is done: its event is kept, or its run waits, and the disk isn't called
-abbrev pub HasGoneBehind : {D : Type 0} → Type 0 → (D → List ℕ) → Plan → DeskView D → DeskView D → Type 0
-HasGoneBehind told content (Tell reply event) old new = HasGoneOn event None old new × (told → HasWrittenBehind content event old new)
-HasGoneBehind told content (Wait job code) old new = HasWaited job code old.jobs new.jobs × (new.store ≡ old.store)
-HasGoneBehind told content _ old new = new ≡ old
+abbrev pub HasGoneBehind : {D : Type 0} → Type 0 → (D → List ℕ) → (D → List ℕ → Type 0) → Plan → DeskView D → DeskView D → Type 0
+HasGoneBehind told content may_leave (Tell reply event) old new = HasGoneOn event None old new × (told → HasWrittenBehind content may_leave event old new)
+HasGoneBehind told content may_leave (Wait job code) old new = HasWaited job code old.jobs new.jobs × (new.store ≡ old.store)
+HasGoneBehind told content may_leave _ old new = new ≡ old
 
 -- a plan that tells an event or none, and asks nobody
 abbrev pub IsSettledPlan : Plan → Type 0

@@ -333,7 +333,7 @@ impl<D: Disk, O: Operator> Desk<D, O> {
         if !self.has_record(event) {
             return Ok(());
         }
-        match self.rewrite(event) {
+        match self.rewrite_for_good(event) {
             Ok(()) => Ok(()),
             Err(_) => Err(OpenError::Fault),
         }

@@ -7,7 +7,6 @@ ghost use Rattle.ckr_desk_memory.specs.Plans.{HasDue, IsSpelledPlan, IsToldReply
 ghost use Rattle.ckr_outside.specs.Disk.{EachSince};
 ghost use Rattle.ckr_desk_refines.specs.Moves.{event_in, reply_in};
 ghost use Rattle.ckr_desk_refines.specs.Unit.{HasPassed};
-ghost use Rattle.ckr_desk.specs.Calls.{IsSettledBehind};
 ghost use Rattle.ckr_desk.specs.Requests.{MayFail, TellsNumbers};
 ghost use Rattle.ckr_desk.specs.Preparation.{IsReadyFor};
 ghost use Rattle.ckr_desk.specs.NoChange.{HasHalted, StaysBy};
@@ -25,7 +24,7 @@ use ckr_outside::Disk;
 
 impl<D: Disk, O: Operator> Desk<D, O> {
     /// Goes on behind what a turn comes to, which is no unit and no question: its event, if it tells one, is kept with what is ready for it, and the
-    /// record that it tells of is written; or its run waits for the operator's word. It takes no memory.
+    /// record that it tells of is written, which the next event's sync reaches; or its run waits for the operator's word. It takes no memory.
     pub(crate) fn go_on(&mut self, plan: Plan, ready: Option<Ready>) -> Result<Reply, DeskError>
         requires is_open { self.old.store.fault ≡ None }
         requires spelled { IsSpelledPlan plan }
@@ -37,8 +36,7 @@ impl<D: Disk, O: Operator> Desk<D, O> {
         requires ready { IsReadyFor (event_in plan) self.old ready }
         ensures reply { IfOk result (λ reply. reply ≡ reply_in plan) }
         ensures spelled { IfOk result IsToldReply }
-        ensures gone { OnOk result (HasGoneBehind D.told D.content plan self.old self.new) }
-        ensures settled { OnOk result (IsSettledBehind D.content D.may_leave (event_in plan) self.new) }
+        ensures gone { OnOk result (HasGoneBehind D.told D.content D.may_leave plan self.old self.new) }
         ensures left { D.told → EachSince D.moment D.left_since self.old.store.disk self.new.store.disk (IsLeftBehind D.content D.may_leave D.size (event_in plan) self.old) }
         ensures machine_room { self.new.machine_room ≡ self.old.machine_room }
         ensures is_open { OnOk result (self.new.store.fault ≡ None) }

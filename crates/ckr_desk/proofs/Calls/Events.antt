@@ -31,8 +31,9 @@ use Rattle.ckr_desk_refines.proofs.Events.Turns.{purged-committed, purged-stands
 use Rattle.ckr_desk_turn.specs.Desk.{DeskModel, behind}
 use Rattle.ckr_volumes.specs.declared.layout.Layout.{Layout}
 use Rattle.ckr_desk.proofs.Images.Entries.{HasNewOne, behind-same}
-use Rattle.ckr_desk.proofs.Images.Soundness.{again-so, kept-behind, kept-left, kept-same}
-use Rattle.ckr_desk.proofs.Trust.Events.{IsBehind, IsComing, desk-behind, trusted-behind}
+use Rattle.ckr_desk.proofs.Images.LastRecord.{again-so}
+use Rattle.ckr_desk.proofs.Images.Soundness.{kept-behind, kept-left, kept-same}
+use Rattle.ckr_desk.proofs.Trust.Events.{IsBehind, IsComing, desk-behind, settled-committed, settled-entries, trusted-behind}
 use Rattle.ckr_desk.specs.Requests.{behind_call, call_fits}
 use Rattle.ckr_desk.specs.Calls.{HasGoneOn, IsLeftBy, may_keep}
 use Rattle.ckr_desk.specs.Rewrite.{OpensSame}
@@ -89,7 +90,8 @@ module _ {D : Type 0} (told : Type 0) (content : D → List ℕ) (may_leave : D 
       tables = gone.moved.tables ∙ ap (λ d. after_event event d old.jobs.tables.desk) (sym its.decked);
       stands = its.stand new gone.moved records;
       entries = entries-so gone.might (content new.store.disk) records;
-      settled = settled;
+      committed = settled-committed told content may_leave event layout new (behind event deck desk) settled (coming gone.might).last (its.stand new gone.moved records);
+      entries_left = settled-entries told content may_leave event layout new (behind event deck desk) settled (entries-so gone.might (content new.store.disk) records);
     }
 
     module _ (new : DeskView D) (same : new.store.layout ≡ layout) (gone : HasGoneOn event deck old new)

@@ -9,7 +9,7 @@ use Rattle.ckr_desk_memory.specs.Checkpoints.{IsCheckpointOf}
 use Rattle.ckr_desk_memory.specs.View.{RunningStepView, jobs_of}
 use Rattle.ckr_library.specs.Catalog.{records_of}
 use Rattle.ckr_library.specs.declared.sets.DataSet.{DataSet}
-use Rattle.ckr_meaning.specs.EffectiveJob.{OwnedStep}
+use Rattle.ckr_meaning.specs.EffectiveJob.{OwnedStep, names_of}
 use Rattle.ckr_meaning.specs.StepRun.{StepStart}
 use Rattle.ckr_points.specs.Office.{Office}
 use Rattle.ckr_points.specs.Rows.{RunRow, TablesModel, run_of}
@@ -17,11 +17,13 @@ use Rattle.ckr_points_tables.specs.Checkpoint.{checkpoint_name}
 use Rattle.ckr_steps.specs.EntryRecords.{HasEntry, SameRecordsOutside}
 use Rattle.ckr_volumes.specs.declared.layout.Layout.{Layout}
 use Rattle.ckr_volumes.specs.SamePlaces.{SamePlaces}
-use Rattle.ckr_desk_refines.proofs.Checkpoints.Turn.{fits-told, its-step, known}
+use Rattle.ckr_desk_refines.proofs.Checkpoints.Desk.{check_is, content-so, keeps-from}
+use Rattle.ckr_desk_refines.proofs.Checkpoints.Turn.{fits-told, its-step, known, pair}
 use Rattle.ckr_desk_refines.proofs.Checkpoints.Turns.{committed-before, entries-before, entries-behind, entry-made, event-made}
 use Rattle.ckr_desk_refines.specs.Checkpoints.{IsToTake, IsWrittenBehind}
 use Rattle.ckr_desk_refines.specs.Commits.{HasCommitted}
 use Rattle.ckr_desk_refines.specs.Entries.{HasEntries}
+use Rattle.ckr_desk_refines.specs.RewriteRecord.{HasCommittedAgain}
 use Rattle.ckr_desk_store.specs.OpenImages.{event_records}
 use Rattle.ckr_desk_turn.specs.Checkpoints.{check_set, next_entry}
 use Rattle.ckr_desk_turn.specs.declared.plan.Plan.TheVariants.{Take}
@@ -33,9 +35,10 @@ use Rattle.ckr_desk.proofs.Checkpoints.EntryForm.{entry-spelled}
 use Rattle.ckr_desk.proofs.Checkpoints.Parts.{fits-ranged}
 use Rattle.ckr_desk.proofs.Checkpoints.Steps.{far, its_pair, own-is, row-there, to-take}
 use Rattle.ckr_desk.proofs.Images.Entries.{within-now}
+use Rattle.ckr_desk.proofs.Images.LastRecord.{again-keeping}
 use Rattle.ckr_desk.proofs.Images.Soundness.{kept-before}
 use Rattle.ckr_desk.specs.Checkpoint.{HasWrittenEntry, IsLeftByEntry, IsMade}
-use Rattle.ckr_desk.specs.Soundness.{HasKept, IsTrusted, office_on, state_of}
+use Rattle.ckr_desk.specs.Soundness.{HasKept, IsTrusted, last_on, office_on, state_of}
 use Rattle.ckr_desk.specs.State.{DeskView}
 
 module _ {D : Type 0} (told : Type 0) (content : D → List ℕ) (may_leave : D → List ℕ → Type 0) (moment : D → ℕ) (left_since : D → ℕ → List ℕ → Type 0) (size : D → ℕ)
@@ -112,6 +115,15 @@ module _ {D : Type 0} (told : Type 0) (content : D → List ℕ) (may_leave : D 
   left-committed : (from left : List ℕ) → IsWrittenBehind layout office run count from left → HasCommitted layout office from → HasCommitted layout office left
   left-committed from left behind committed = committed-before layout old.jobs image desk turn run on to made.event event-is from left count committed behind
 
+  -- so it is where the record of the last event is lacked
+  left-again : (from left : List ℕ) → IsWrittenBehind layout office run count from left → HasCommittedAgain layout office (last_on layout image) from → HasCommittedAgain layout office (last_on layout image) left
+  left-again from left behind committed =
+      let p = pair layout old.jobs image desk turn run on to in
+      let fits = fits-told layout old.jobs image desk turn run on to made.event event-is in
+      let named = check_is layout old.jobs image desk turn run on to from left count behind in
+      again-keeping layout office (last_on layout image) (names_of p.stands.start.root p.stands.start.owned) on.sets trusted.stands.is_desk.kept.events.extents p.stands.sets from left
+      (keeps-from layout old.jobs image desk turn run on to from left count behind (content-so layout old.jobs image desk turn run on to fits behind.name named behind.table behind.at)) committed
+
   left-entries : (from left : List ℕ) → IsWrittenBehind layout office run count from left → HasEntries layout office from → HasEntries layout office left
   left-entries from left behind entries = entries-before layout old.jobs image desk turn run on to made.event event-is from left count (within-now told content may_leave old trusted) entries behind
 
@@ -119,7 +131,7 @@ module _ {D : Type 0} (told : Type 0) (content : D → List ℕ) (may_leave : D 
   pub entry-kept : (came : List (List ℕ)) (left : List ℕ) → IsLeftByEntry content may_leave size made old left → HasKept layout (size old.store.disk) (event_records layout image) came left
   entry-kept came left by =
       let behind : IsWrittenBehind layout office run count by.1.0 left = behind-from by.1.0 left by.1.2 in
-      kept-before told content may_leave size old trusted came left by.0 (left-committed by.1.0 left behind (trusted.committed by.1.0 by.1.1)) (left-entries by.1.0 left behind (trusted.entries_left by.1.0 by.1.1))
+      kept-before told content may_leave size old trusted came left by.0 (left-again by.1.0 left behind (trusted.committed by.1.0 by.1.1)) (left-entries by.1.0 left behind (trusted.entries_left by.1.0 by.1.1))
 
   module _ (mid : DeskView D) (wrote : HasWrittenEntry told content may_leave moment left_since made old mid) where
     abbrev pub after : List ℕ

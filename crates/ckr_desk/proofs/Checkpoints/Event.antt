@@ -31,6 +31,7 @@ use Rattle.ckr_desk_refines.proofs.Entries.There.{has-then}
 use Rattle.ckr_desk_refines.proofs.Events.Commits.{committed-moves}
 use Rattle.ckr_desk_refines.specs.Commits.{HasCommitted}
 use Rattle.ckr_desk_refines.specs.Entries.{HasEntries}
+use Rattle.ckr_desk_refines.specs.Standing.{StandsForDesk}
 use Rattle.ckr_desk_refines.specs.Moves.{HasSameRecords, HaveMoved}
 use Rattle.ckr_desk_refines.specs.RewriteRecord.{RewriteRecord, rewrite_of}
 use Rattle.ckr_desk_store.specs.OpenImages.{Opens, event_records}
@@ -51,8 +52,9 @@ use Rattle.ckr_desk.proofs.Checkpoints.Parts.{fits-ranged}
 use Rattle.ckr_desk.proofs.Checkpoints.Steps.{reply-for, turned-take}
 use Rattle.ckr_desk.proofs.Images.Entries.{laid-then, same-has, within-then}
 use Rattle.ckr_desk.proofs.Images.NextEvent.{deck-none}
-use Rattle.ckr_desk.proofs.Images.Soundness.{again-so, kept-before, kept-behind}
-use Rattle.ckr_desk.proofs.Trust.Events.{IsBehind, IsComing, desk-behind, trusted-behind}
+use Rattle.ckr_desk.proofs.Images.LastRecord.{again-so}
+use Rattle.ckr_desk.proofs.Images.Soundness.{kept-behind, kept-whole}
+use Rattle.ckr_desk.proofs.Trust.Events.{IsBehind, IsComing, desk-behind, settled-committed, settled-entries, trusted-behind}
 use Rattle.ckr_desk.specs.Calls.{HasGoneOn, IsLeftBy, may_keep}
 use Rattle.ckr_desk.specs.Checkpoint.{HasWrittenEntry, IsLeftByEntry, IsMade, IsReplyWith}
 use Rattle.ckr_desk.specs.Requests.{has_room, room_behind, spelled}
@@ -180,16 +182,21 @@ module _ {D : Type 0} (told : Type 0) (content : D → List ℕ) (may_leave : D 
         points = gone.moved.points ∙ ap (λ (jobs : JobsView). points_behind event new.jobs.running jobs.points) wrote.jobs;
       }
 
+      stands-so : StandsForDesk layout new.jobs (content new.store.disk) later
+      stands-so =
+          stand layout old.jobs image desk turn run on (to told content may_leave moment left_since size old trusted turn its run planned made is) event told-so new.jobs after (content new.store.disk) _ moved
+          (behind-after told content may_leave moment left_since size old trusted turn its run planned made is mid wrote) same_records
+
       behind-so : IsBehind told content may_leave event old new later
       behind-so = record {
         layout = gone.layout ∙ layout-same;
         events = subst (λ (l : Layout). event_records l (content new.store.disk) ≡ event_records l after ++ spelling event ∷ []) layout-same events
             ∙ ap (λ before. before ++ spelling event ∷ []) (wrote.events trusted.tells);
         tables = moved.tables ∙ ap (λ (d : Option Job). after_event event d old.jobs.tables.desk) (sym none-decked);
-        stands = stand layout old.jobs image desk turn run on (to told content may_leave moment left_since size old trusted turn its run planned made is) event told-so new.jobs after (content new.store.disk) _ moved
-            (behind-after told content may_leave moment left_since size old trusted turn its run planned made is mid wrote) same_records;
+        stands = stands-so;
         entries = entries-so (might-before gone.might) (content new.store.disk) same_records;
-        settled = settled;
+        committed = settled-committed told content may_leave event layout new later settled (coming (might-before gone.might)).last stands-so;
+        entries_left = settled-entries told content may_leave event layout new later settled (entries-so (might-before gone.might) (content new.store.disk) same_records);
       }
 
       pub taken-fits : turn_fits (state_of content old) turn answer ≡ true
@@ -243,7 +250,7 @@ module _ {D : Type 0} (told : Type 0) (content : D → List ℕ) (may_leave : D 
       -- without the event
       same-kept : (left : List ℕ) → OpensSame content size mid left → HasSameRecords layout after left → HasKept layout (size old.store.disk) before came left
       same-kept left opens same =
-          kept-before told content may_leave size old trusted came left (opens-so left opens)
+          kept-whole told content may_leave size old trusted came left (opens-so left opens)
           (committed-moves layout office after left trusted.stands.is_desk.kept same (committed-after told content may_leave moment left_since size old trusted turn its run planned made is mid wrote))
           (same-has told content may_leave old trusted after left (entries-after told content may_leave moment left_since size old trusted turn its run planned made is mid wrote) same)
 

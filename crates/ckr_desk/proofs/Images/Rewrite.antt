@@ -24,7 +24,7 @@ use Rattle.ckr_volumes.specs.Places.{address_of}
 use Rattle.ckr_volumes.specs.Records.{record_at, records_on}
 use Rattle.ckr_volumes.specs.Layouts.{StandsIn, is_laid_out, lie_apart}
 use Rattle.ckr_desk.specs.State.{DeskView}
-use Rattle.ckr_desk.specs.Rewrite.{IsLackingBy, IsWrittenBy, LacksAtMost, OpensSame}
+use Rattle.ckr_desk.specs.Rewrite.{IsLackingBy, IsWrittenBy, LackAtMost, LacksAtMost, OpensSame}
 
 module _ (layout : Layout) (laid : IsTrue (is_laid_out layout)) (set : DataSet) (stands : StandsIn layout set) (place : ℕ) (within : place < set.space)
     (old new : List ℕ) (same : SameOutside (address_of layout set place) set.lrecl old new) where
@@ -144,6 +144,12 @@ module _ {D : Type 0} (content : D → List ℕ) (may_leave : D → List ℕ →
       in_other_words moment left_since old.store.disk new (λ image. OpensSame content size old image × StemsFrom (may_leave old.store.disk) at n image) (IsLackingBy content size event old)
       (both_since moment left_since old.store.disk new (OpensSame content size old) (StemsFrom (may_leave old.store.disk) at n) opens stems)
       (λ image both. (both.0, inr (lacks image (subst (λ bytes. SameOutside at n bytes image) (only both.1.0 both.1.1) both.1.2))))
+
+  -- so it is at the end
+  pub lacking-then : (new : D) → EachSince moment left_since old.store.disk new (IsLackingBy content size event old)
+      → ((t : ℕ) (image : List ℕ) → t ≤ moment new → may_leave new image → left_since new t image)
+      → LackAtMost old.store.layout old.jobs.tables.desk event (content old.store.disk) (may_leave new)
+  lacking-then new left counts image may = (at_the_end moment may_leave left_since old.store.disk new (IsLackingBy content size event old) left counts image may).1
 
   -- and while what was written is synced
   pub syncing-left : (mid new : D) → EachSince moment left_since old.store.disk mid (IsLackingBy content size event old)

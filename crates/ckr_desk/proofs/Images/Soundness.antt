@@ -1,6 +1,5 @@
 -- Which images of a stop are sound.
-use Rattle.std.proofs.Common.{◌≡◌, ◌++◌, ◌-◌, ℕ, List, [], ◌∷◌, Bool, true, false, cond, take, refl, ap, sym, ◌∙◌, subst, append-nil, Option, Some, None, Result, Ok, Err, slice_get, slice_set}
-use Rattle.ckr_base.proofs.Sequences.{set-same}
+use Rattle.std.proofs.Common.{◌≡◌, ◌++◌, ◌-◌, ℕ, List, [], ◌∷◌, Bool, cond, take, refl, ap, sym, ◌∙◌, subst, append-nil, Option, Some, None, Result, Ok, Err}
 use Rattle.ckr_book.specs.Book.{ends_closed}
 use Rattle.ckr_book.specs.Records.{end_from}
 use Rattle.ckr_events.specs.declared.event.Event.{Event}
@@ -11,18 +10,17 @@ use Rattle.ckr_desk_refines.specs.Commits.{HasCommitted}
 use Rattle.ckr_desk_refines.specs.Entries.{HasEntries}
 use Rattle.ckr_desk_refines.specs.Moves.{HasSameRecords}
 use Rattle.ckr_desk_refines.proofs.Events.Commits.{committed-moves}
-use Rattle.ckr_library.specs.NameMaps.{Name, same_name}
-use Rattle.ckr_library.proofs.Named.{name-same}
 use Rattle.ckr_outside.specs.Disk.{part}
 use Rattle.ckr_points.specs.Events.{AreSound}
-use Rattle.ckr_points.specs.Office.{Office, model_records, office_with}
+use Rattle.ckr_points.specs.Office.{Office, office_with}
 use Rattle.ckr_points.specs.Restart.{after_event}
-use Rattle.ckr_points.specs.Rows.{TableSet, TablesModel, no_tables}
-use Rattle.ckr_desk_refines.specs.RewriteRecord.{HasCommittedAgain, HasLast, RewriteRecord, again, any_rewrite, last_event}
+use Rattle.ckr_points.specs.Rows.{TablesModel, no_tables}
+use Rattle.ckr_desk_refines.specs.RewriteRecord.{HasCommittedAgain, HasLast, last_event}
 use Rattle.ckr_desk_store.specs.OpenImages.{Opens, event_records}
 use Rattle.ckr_volumes.specs.declared.layout.Layout.{Layout}
 use Rattle.ckr_volumes.specs.Header.{header_of}
 use Rattle.ckr_desk.proofs.Images.Entries.{none-bad-on, same-has}
+use Rattle.ckr_desk.proofs.Images.LastRecord.{again-so}
 use Rattle.ckr_desk.proofs.Images.NextEvent.{office-grown, office-same, opens-grown, replayed-so, sound-grown}
 use Rattle.ckr_desk.proofs.Openings.Answers.{by_its_book}
 use Rattle.ckr_desk.proofs.Trust.Events.{IsComing, last-grown}
@@ -58,23 +56,6 @@ sound-at layout size image office head closed is brings events committed last en
       entries = subst (λ (o : Office). HasEntries layout o image) (sym is) entries;
     }
 
--- a record that is there may be written again
-again-same : (rewrite : Option RewriteRecord) (name : Name) (records : List (List ℕ)) → ((its : RewriteRecord) → rewrite ≡ Some its → name ≡ its.name → slice_get records its.place ≡ Some its.image)
-    → again rewrite name records ≡ records
-again-same None name records there = refl
-again-same (Some its) name records there = by (same_name name its.name) refl
-  where
-    by : (b : Bool) → same_name name its.name ≡ b → cond b (slice_set records its.place its.image) records ≡ records
-    by true same = set-same records its.place its.image (there its refl (name-same name its.name same))
-    by false same = refl
-
-pub again-so : (layout : Layout) (office : Office) (last : Option Event) (image : List ℕ) → HasLast office last → HasCommitted layout office image → HasCommittedAgain layout office last image
-again-so layout office last image there committed = λ (name : Name) (table : TableSet) at plain.
-    ap (again (any_rewrite office.tables last) name) (committed name table at plain)
-    ∙ again-same (any_rewrite office.tables last) name (model_records office name)
-    (λ its is same. ap (λ n. slice_get (model_records office n) its.place) same ∙ there its is)
-    ∙ refl
-
 with-tables : (event : Event) (office : Office) (tables : TablesModel) → (let r : Result TablesModel ℕ = Ok (office_with office event tables).tables in r) ≡ Ok tables
 with-tables (Submitted job cards) office tables = refl
 with-tables _ office tables = refl
@@ -89,24 +70,32 @@ module _ {D : Type 0} (told : Type 0) (content : D → List ℕ) (may_leave : D 
   abbrev office_now : Office
   office_now = office_on old.store.layout (content old.store.disk)
 
-  last-same : (image : List ℕ) → event_records layout image ≡ before → last_on layout image ≡ last_on layout (content old.store.disk)
+  abbrev last_now : Option Event
+  last_now = last_on old.store.layout (content old.store.disk)
+
+  last-same : (image : List ℕ) → event_records layout image ≡ before → last_on layout image ≡ last_now
   unfolding last_on
   last-same image same = ap (λ records. last_event (events_in records)) same
 
   -- an image with the same events
-  pub kept-before : (came : List (List ℕ)) (image : List ℕ) → OpensSame content size old image → HasCommitted layout office_now image → HasEntries layout office_now image
+  pub kept-before : (came : List (List ℕ)) (image : List ℕ) → OpensSame content size old image → HasCommittedAgain layout office_now last_now image → HasEntries layout office_now image
       → HasKept layout (size old.store.disk) before came image
   kept-before came image opens committed entries = record {
     sound = sound-at layout (size old.store.disk) image office_now opens.head opens.closed (office-same layout (content old.store.disk) image opens.list)
         (ap (λ records. behind_records layout no_tables 0 records) opens.list ∙ trusted.opens ∙ ap Ok trusted.stands.tables)
         (subst (λ records. AreSound layout (events_in records)) (sym opens.list) trusted.events)
-        (subst (λ l. HasCommittedAgain layout office_now l image) (sym (last-same image opens.list)) (again-so layout office_now (last_on layout (content old.store.disk)) image trusted.last committed))
+        (subst (λ l. HasCommittedAgain layout office_now l image) (sym (last-same image opens.list)) committed)
         (subst (HasLast office_now) (sym (last-same image opens.list)) trusted.last) entries;
     front = [];
     more = came;
     split = refl;
     events = opens.list ∙ sym (append-nil before);
   }
+
+  -- one that has all that is committed
+  pub kept-whole : (came : List (List ℕ)) (image : List ℕ) → OpensSame content size old image → HasCommitted layout office_now image → HasEntries layout office_now image
+      → HasKept layout (size old.store.disk) before came image
+  kept-whole came image opens committed entries = kept-before came image opens (again-so layout office_now last_now image trusted.last committed) entries
 
   -- one that the disk might have left before
   pub kept-left : (came : List (List ℕ)) (image : List ℕ) → OpensSame content size old image → may_leave old.store.disk image → HasKept layout (size old.store.disk) before came image
@@ -115,7 +104,7 @@ module _ {D : Type 0} (told : Type 0) (content : D → List ℕ) (may_leave : D 
   -- one with the same records too
   pub kept-same : (came : List (List ℕ)) (image : List ℕ) → OpensSame content size old image → HasSameRecords layout (content old.store.disk) image → HasKept layout (size old.store.disk) before came image
   kept-same came image opens same =
-      kept-before came image opens (committed-moves layout office_now (content old.store.disk) image trusted.stands.is_desk.kept same trusted.stands.committed)
+      kept-whole came image opens (committed-moves layout office_now (content old.store.disk) image trusted.stands.is_desk.kept same trusted.stands.committed)
       (same-has told content may_leave old trusted (content old.store.disk) image trusted.entries same)
 
   module _ (event : Event) (desk : _) (coming : IsComing told content may_leave event old desk) where

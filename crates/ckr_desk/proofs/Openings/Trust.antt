@@ -35,6 +35,7 @@ use Rattle.ckr_volumes.specs.declared.layout.Layout.{Layout}
 use Rattle.ckr_volumes.specs.Header.{header_of}
 use Rattle.ckr_desk.proofs.Images.NextEvent.{office-same}
 use Rattle.ckr_desk.proofs.Images.Entries.{are-in-effect, are-within, checks-keep, none-bad-on}
+use Rattle.ckr_desk.proofs.Images.LastRecord.{again-only}
 use Rattle.ckr_desk.proofs.Images.Soundness.{sound-at}
 use Rattle.ckr_desk.proofs.Images.WrittenRecord.{same-again, same-lacking}
 use Rattle.ckr_desk.proofs.Openings.LastRecord.{IsDue, again-lacking, committed-already, committed-written, due}
@@ -246,6 +247,11 @@ module _ {D : Type 0} (told : Type 0) (content : D → List ℕ) (may_leave : D 
     committed-now : HasCommitted new.store.layout (office_on new.store.layout (content new.store.disk)) (content new.store.disk)
     committed-now = subst (λ o. HasCommitted new.store.layout o (content new.store.disk)) (sym office-new) committed-new
 
+    last-now : HasLast (office_on new.store.layout (content new.store.disk)) (last_on new.store.layout (content new.store.disk))
+    last-now =
+        subst (λ o. HasLast o (last_on new.store.layout (content new.store.disk))) (sym office-new)
+        (subst (HasLast here) (sym last-new) (last-there (content disk) (size disk) (opened_of new) sound is.opens))
+
     events-new : AreSound new.store.layout (events_in (event_records new.store.layout (content new.store.disk)))
     events-new = subst (λ records. AreSound new.store.layout (events_in records)) (sym is.events) (events-so (content disk) (size disk) (opened_of new) sound is.opens)
 
@@ -265,9 +271,8 @@ module _ {D : Type 0} (told : Type 0) (content : D → List ℕ) (may_leave : D 
       opens = brings-new;
       events = events-new;
       stands = subst (λ (s : RoomyDesk). StandsForDesk new.store.layout new.jobs (content new.store.disk) s.desk) state-so stands-here;
-      last = subst (λ o. HasLast o (last_on new.store.layout (content new.store.disk))) (sym office-new)
-          (subst (HasLast here) (sym last-new) (last-there (content disk) (size disk) (opened_of new) sound is.opens));
-      committed = λ image may. subst (HasCommitted new.store.layout (office_on new.store.layout (content new.store.disk))) (sym (is.settled image may)) committed-now;
+      last = last-now;
+      committed = again-only new.store.layout (office_on new.store.layout (content new.store.disk)) (last_on new.store.layout (content new.store.disk)) (content new.store.disk) (may_leave new.store.disk) last-now committed-now is.settled;
       entries = entries-now;
       entries_left = λ image may. subst (HasEntries new.store.layout (office_on new.store.layout (content new.store.disk))) (sym (is.settled image may)) entries-now;
     }

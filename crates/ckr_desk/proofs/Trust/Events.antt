@@ -11,12 +11,13 @@ use Rattle.ckr_points.specs.Events.{AreSound, IsNext}
 use Rattle.ckr_points.specs.Office.{Office, office_after}
 use Rattle.ckr_points.specs.Restart.{Decked, after_event}
 use Rattle.ckr_points.specs.Rows.{no_tables}
-use Rattle.ckr_desk_refines.specs.RewriteRecord.{HasLast, last_event}
+use Rattle.ckr_desk_refines.specs.RewriteRecord.{HasCommittedAgain, HasLast, last_event}
 use Rattle.ckr_desk_refines.specs.Standing.{StandsForDesk, desk_seen}
 use Rattle.ckr_desk_refines.proofs.Standing.DeskView.{desk-so}
 use Rattle.ckr_desk_store.specs.OpenImages.{event_records}
 use Rattle.ckr_desk_turn.specs.Desk.{DeskModel}
 use Rattle.ckr_volumes.specs.declared.layout.Layout.{Layout}
+use Rattle.ckr_desk.proofs.Images.LastRecord.{again-only}
 use Rattle.ckr_desk.proofs.Images.NextEvent.{events-more, office-grown, opens-grown, replayed-so, sound-grown}
 use Rattle.ckr_desk.specs.Opening.{behind_records}
 use Rattle.ckr_desk.specs.Soundness.{IsTrusted, events_in, last_on, office_on, state_of}
@@ -53,7 +54,19 @@ module _ {D : Type 0} (told : Type 0) (content : D → List ℕ) (may_leave : D 
     pub tables : new.jobs.tables.desk ≡ after_event event (deck_of event) old.jobs.tables.desk
     pub stands : StandsForDesk old.store.layout new.jobs (content new.store.disk) desk
     pub entries : HasEntries old.store.layout desk.office (content new.store.disk)
-    pub settled : Only (content new.store.disk) (may_leave new.store.disk)
+    pub committed : (image : List ℕ) → may_leave new.store.disk image → HasCommittedAgain old.store.layout desk.office (Some event) image
+    pub entries_left : (image : List ℕ) → may_leave new.store.disk image → HasEntries old.store.layout desk.office image
+
+  -- where a stop leaves what a read gives
+  module _ (event : Event) (layout : Layout) (new : DeskView D) (desk : DeskModel) (settled : Only (content new.store.disk) (may_leave new.store.disk)) where
+    pub settled-committed : HasLast desk.office (Some event) → StandsForDesk layout new.jobs (content new.store.disk) desk
+        → (image : List ℕ) → may_leave new.store.disk image → HasCommittedAgain layout desk.office (Some event) image
+    settled-committed last stands =
+        again-only layout desk.office (Some event) (content new.store.disk) (may_leave new.store.disk) last
+        (subst (λ l. HasCommitted l desk.office (content new.store.disk)) stands.layout_is stands.committed) settled
+
+    pub settled-entries : HasEntries layout desk.office (content new.store.disk) → (image : List ℕ) → may_leave new.store.disk image → HasEntries layout desk.office image
+    settled-entries entries image may = subst (HasEntries layout desk.office) (sym (settled image may)) entries
 
   module _ (event : Event) (old new : DeskView D) (desk : DeskModel) (coming : IsComing event old desk) (is : IsBehind event old new desk) where
     abbrev layout : Layout
@@ -61,6 +74,9 @@ module _ {D : Type 0} (told : Type 0) (content : D → List ℕ) (may_leave : D 
 
     office-so : office_on layout (content new.store.disk) ≡ desk.office
     office-so = office-grown layout (content old.store.disk) (content new.store.disk) event coming.is_event is.events ∙ sym coming.office
+
+    last-so : last_on layout (content new.store.disk) ≡ Some event
+    last-so = last-grown layout (content old.store.disk) (content new.store.disk) event coming.is_event is.events
 
     entries-so : (image : List ℕ) → HasEntries layout desk.office image → HasEntries new.store.layout (office_on new.store.layout (content new.store.disk)) image
     entries-so image has =
@@ -89,12 +105,11 @@ module _ {D : Type 0} (told : Type 0) (content : D → List ℕ) (may_leave : D 
           (subst (λ l. StandsForDesk l new.jobs (content new.store.disk) desk) (sym is.layout) is.stands);
       last = subst (λ l. HasLast (office_on l (content new.store.disk)) (last_on l (content new.store.disk))) (sym is.layout)
           (subst (λ o. HasLast o (last_on layout (content new.store.disk))) (sym office-so)
-          (subst (λ e. HasLast desk.office e) (sym (last-grown layout (content old.store.disk) (content new.store.disk) event coming.is_event is.events)) coming.last));
+          (subst (λ e. HasLast desk.office e) (sym last-so) coming.last));
       committed = λ image may.
-          subst (λ l. HasCommitted l (office_on l (content new.store.disk)) image) (sym is.layout)
-          (subst (λ o. HasCommitted layout o image) (sym office-so)
-          (subst (λ bytes. HasCommitted layout desk.office bytes) (sym (is.settled image may))
-          (subst (λ l. HasCommitted l desk.office (content new.store.disk)) is.stands.layout_is is.stands.committed)));
+          subst (λ l. HasCommittedAgain l (office_on l (content new.store.disk)) (last_on l (content new.store.disk)) image) (sym is.layout)
+          (subst (λ o. HasCommittedAgain layout o (last_on layout (content new.store.disk)) image) (sym office-so)
+          (subst (λ e. HasCommittedAgain layout desk.office e image) (sym last-so) (is.committed image may)));
       entries = entries-so (content new.store.disk) is.entries;
-      entries_left = λ image may. entries-so image (subst (HasEntries layout desk.office) (sym (is.settled image may)) is.entries);
+      entries_left = λ image may. entries-so image (is.entries_left image may);
     }

@@ -6,7 +6,6 @@ use Rattle.ckr_base.proofs.Bools.{and-first}
 use Rattle.ckr_book.specs.Book.{room_of}
 use Rattle.ckr_desk_memory.specs.Invariant.{is_in_step}
 use Rattle.ckr_desk_memory.specs.View.{JobsView, RunningStepView}
-use Rattle.ckr_desk_refines.specs.Commits.{HasCommitted}
 use Rattle.ckr_desk_refines.specs.Entries.{HasEntries}
 use Rattle.ckr_desk_turn.specs.declared.failed_run.FailedRun.{FailedRun}
 use Rattle.ckr_points.specs.Events.{AreSound}
@@ -15,7 +14,7 @@ use Rattle.ckr_points.specs.Office.{Office, is_holder}
 use Rattle.ckr_points.specs.Rows.{RunRow, TablesModel, no_tables, run_of}
 use Rattle.ckr_points.specs.declared.run.RunState.{RunState}
 use Rattle.ckr_points.specs.declared.run.RunState.TheVariants.{Queued}
-use Rattle.ckr_desk_refines.specs.RewriteRecord.{HasLast}
+use Rattle.ckr_desk_refines.specs.RewriteRecord.{HasCommittedAgain, HasLast}
 use Rattle.ckr_desk_refines.specs.Standing.{AllStand, PointsStand, StandsForDesk, StandsForPoint, step_on}
 use Rattle.ckr_desk_store.specs.OpenImages.{event_records}
 use Rattle.ckr_desk_turn.specs.Desk.{DeskModel}
@@ -100,8 +99,8 @@ module _ {D : Type 0} (told : Type 0) (content : D → List ℕ) (may_leave : D 
       last = subst (λ l. HasLast (office_on l (content new.store.disk)) (last_on l (content new.store.disk))) (sym is.layout)
           (subst (λ bytes. HasLast (office_on old.store.layout bytes) (last_on old.store.layout bytes)) (sym is.reads) trusted.last);
       committed = λ image may.
-          subst (λ l. HasCommitted l (office_on l (content new.store.disk)) image) (sym is.layout)
-          (subst (λ bytes. HasCommitted old.store.layout (office_on old.store.layout bytes) image) (sym is.reads)
+          subst (λ l. HasCommittedAgain l (office_on l (content new.store.disk)) (last_on l (content new.store.disk)) image) (sym is.layout)
+          (subst (λ bytes. HasCommittedAgain old.store.layout (office_on old.store.layout bytes) (last_on old.store.layout bytes) image) (sym is.reads)
           (trusted.committed image (is.none_new image may)));
       entries = entries-same (content new.store.disk) (subst (HasEntries old.store.layout (office_on old.store.layout (content old.store.disk))) (sym is.reads) trusted.entries);
       entries_left = λ image may. entries-same image (trusted.entries_left image (is.none_new image may));

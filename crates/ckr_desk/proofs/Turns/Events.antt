@@ -1,5 +1,5 @@
 -- A turn that tells an event without a unit, with the operator's answer if he is asked: the desk behind it, and what a stop leaves.
-use Rattle.std.proofs.Common.{◌≡◌, ◌+◌, ◌-◌, ℕ, List, [], ◌∷◌, Bool, true, false, length, refl, ap, sym, ◌∙◌, subst, ⊎_elim, arith, Some, None}
+use Rattle.std.proofs.Common.{◌≡◌, ◌+◌, ◌-◌, ℕ, List, [], ◌∷◌, Bool, true, false, length, refl, ap, sym, ◌∙◌, subst, ◌⊎◌, ⊎_elim, arith, Some, None}
 use Rattle.std.proofs.lemmas.Bool.{and_from, false≢true, le-leb}
 use Rattle.ckr_base.proofs.Options.{some-not-none}
 use Rattle.ckr_book.specs.Book.{IsBeforeOrAfter, room_of}
@@ -13,6 +13,7 @@ use Rattle.ckr_desk_turn.proofs.Turns.Initiator.{turn-keeps}
 use Rattle.ckr_desk_turn.specs.NextEvents.{EventComes}
 use Rattle.ckr_desk_turn.specs.Turns.{carried_out, IsMountedTurnOf, MountedTurn, plan_for, turn_of}
 use Rattle.ckr_desk_turn.specs.Invariant.{IsDesk}
+use Rattle.ckr_outside.specs.Disk.{Only}
 use Rattle.ckr_points.specs.Events.{IsNext}
 use Rattle.ckr_points.specs.Office.{Office, office_after}
 use Rattle.ckr_points.specs.Restart.{after_event}
@@ -21,6 +22,7 @@ use Rattle.ckr_desk_refines.proofs.Standing.Plans.{plans-so}
 use Rattle.ckr_desk_refines.specs.Entries.{HasEntries}
 use Rattle.ckr_desk_refines.specs.RewriteRecord.{RewriteRecord, rewrite_of}
 use Rattle.ckr_desk_refines.specs.Moves.{HasSameRecords, KnowsItsEntry}
+use Rattle.ckr_desk_refines.specs.Standing.{StandsForDesk}
 use Rattle.ckr_desk_store.specs.OpenImages.{Opens, event_records}
 use Rattle.ckr_desk_refines.proofs.Events.Turns.{told-committed, told-stands}
 use Rattle.ckr_desk_turn.specs.declared.plan.Plan.{Plan}
@@ -32,12 +34,13 @@ use Rattle.ckr_desk_turn.specs.Spelling.{IsSpelled}
 use Rattle.ckr_volumes.specs.declared.layout.Layout.{Layout}
 use Rattle.ckr_desk.proofs.Images.NextEvent.{deck-none}
 use Rattle.ckr_desk.proofs.Images.Entries.{HasNewOne, behind-same}
-use Rattle.ckr_desk.proofs.Images.Soundness.{again-so, kept-behind, kept-left, kept-same}
+use Rattle.ckr_desk.proofs.Images.LastRecord.{again-so}
+use Rattle.ckr_desk.proofs.Images.Soundness.{kept-behind, kept-left, kept-same}
 use Rattle.ckr_desk.proofs.Images.WrittenRecord.{TellsRecord}
 use Rattle.ckr_desk.proofs.Turns.QuietEvents.{IsQuietPlan, decided-quiet, is_quiet, plan-quiet}
-use Rattle.ckr_desk.proofs.Trust.Events.{IsBehind, IsComing, desk-behind}
+use Rattle.ckr_desk.proofs.Trust.Events.{IsBehind, IsComing, desk-behind, settled-committed, settled-entries}
 use Rattle.ckr_desk.specs.Requests.{has_room, room_behind}
-use Rattle.ckr_desk.specs.Calls.{HasGoneOn, IsLeftBy, IsSettledBehind, may_keep}
+use Rattle.ckr_desk.specs.Calls.{HasGoneOn, IsLeftBy, may_keep}
 use Rattle.ckr_desk.specs.Rewrite.{IsWrittenBy, LacksAtMost, OpensSame}
 use Rattle.ckr_desk.specs.Turn.{behind_turn, event_of_turn, turn_fits}
 use Rattle.ckr_desk.specs.Units.{HasGoneBehind, HasWrittenBehind, IsLeftBehind, IsSettledPlan}
@@ -69,6 +72,9 @@ quiet-written _ quiet layout tables before after is = is
 pub quiet-lacks : (event : Event) → is_quiet event ≡ true → (layout : Layout) (tables : _) (before after : List ℕ) → LacksAtMost layout tables event before after → ⊥
 quiet-lacks (Rewritten job taken writes lengths place image) quiet layout tables before after lacks = absurd (subst (λ (b : Bool). elim b as (λ _. Type 0) [ true ↦ ⊥ | false ↦ Unit {0} ]) quiet tt)
 quiet-lacks _ quiet layout tables before after lacks = lacks
+
+pub quiet-left : (event : Event) → is_quiet event ≡ true → (layout : Layout) (tables : _) (before image : List ℕ) → (image ≡ before) ⊎ LacksAtMost layout tables event before image → image ≡ before
+quiet-left event quiet layout tables before image either = ⊎_elim (λ same. same) (λ lacks. absurd (quiet-lacks event quiet layout tables before image lacks)) either
 
 pub quiet-takes : (event : Event) → is_quiet event ≡ true → (layout : Layout) (now : Office) (image : List ℕ) → HasNewOne layout now event image
 quiet-takes (Checkpointed job id taken writes lengths place bytes) quiet layout now image = absurd (false≢true quiet)
@@ -147,20 +153,24 @@ module _ {D : Type 0} (told : Type 0) (content : D → List ℕ) (may_leave : D 
         behind-same told content may_leave old trusted event (behind event None desk) (coming-turn might) (content old.store.disk) image
         (quiet-takes event quiet-so layout desk.office (content old.store.disk)) trusted.entries same
 
-    pub behind-turn-so : KnowsItsEntry event desk old.jobs.points → (new : DeskView D) → new.store.layout ≡ layout → told → HasGoneBehind told content (Tell reply event) old new → IsSettledBehind content may_leave (Some event) new
+    pub behind-turn-so : KnowsItsEntry event desk old.jobs.points → (new : DeskView D) → new.store.layout ≡ layout → told → HasGoneBehind told content may_leave (Tell reply event) old new
         → IsBehind told content may_leave event old new (behind event None desk)
-    behind-turn-so knows new same tells gone settled =
-        let written : HasWrittenBehind content event old new = gone.1 tells in
+    behind-turn-so knows new same tells gone =
+        let written : HasWrittenBehind content may_leave event old new = gone.1 tells in
         let same_bytes : content new.store.disk ≡ written.told_on = quiet-written event quiet-so layout new.jobs.tables.desk written.told_on (content new.store.disk) written.written in
+        let settled : Only (content new.store.disk) (may_leave new.store.disk) = λ image may. quiet-left event quiet-so layout new.jobs.tables.desk written.told_on image (written.left image may) ∙ sym same_bytes in
         let same_records : HasSameRecords layout (content old.store.disk) (content new.store.disk) = subst (λ bytes. HasSameRecords layout (content old.store.disk) bytes) (sym same_bytes) written.same in
+        let stands : StandsForDesk layout new.jobs (content new.store.disk) (behind event None desk) =
+        told-stands layout old.jobs new.jobs (content old.store.disk) (content new.store.disk) desk turn answer reply event trusted.stands its at-desk knows gone.0.moved same_records in
+        let entries : HasEntries layout (behind event None desk).office (content new.store.disk) = entries-so gone.0.might (content new.store.disk) same_records in
         record {
           layout = same;
           events = written.events;
           tables = gone.0.moved.tables ∙ ap (λ d. after_event event d old.jobs.tables.desk) (sym none);
-          stands = told-stands layout old.jobs new.jobs (content old.store.disk) (content new.store.disk) desk turn answer reply event trusted.stands its at-desk
-              knows gone.0.moved same_records;
-          entries = entries-so gone.0.might (content new.store.disk) same_records;
-          settled = settled;
+          stands = stands;
+          entries = entries;
+          committed = settled-committed told content may_leave event layout new (behind event None desk) settled (coming-turn gone.0.might).last stands;
+          entries_left = settled-entries told content may_leave event layout new (behind event None desk) settled entries;
         }
 
     fits-so : (new : DeskView D) → HasGoneOn event None old new → has_room (room_of old.store.book) (Some event) ≡ true

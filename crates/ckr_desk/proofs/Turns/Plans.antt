@@ -32,7 +32,6 @@ use Rattle.ckr_desk.specs.declared.error.DeskError.TheVariants.{NoMemory, DiskFa
 use Rattle.ckr_desk.specs.Continuation.{PlanKnows, PlanStandsAt}
 use Rattle.ckr_desk.specs.Records.{ReadingCause}
 use Rattle.ckr_desk.specs.Requests.{FailsBy, IsFull, MayFail, has_room, room_behind, spelled}
-use Rattle.ckr_desk.specs.Calls.{IsSettledBehind}
 use Rattle.ckr_desk.specs.Preparation.{LacksAnswers, MayLack, NotReadyFor, NotSettled}
 use Rattle.ckr_desk.specs.Rewrite.{OpensSame}
 use Rattle.ckr_desk.specs.NoChange.{HasHalted, IsOfDisk, StaysBy}
@@ -151,15 +150,15 @@ decided-stands desk points answer plan stands = by-decide (PlanStandsAt desk poi
 same-told : {D : Type 0} (content : D → List ℕ) (old new : DeskView D) → new.store ≡ old.store → event_records old.store.layout (content new.store.disk) ≡ event_records old.store.layout (content old.store.disk) ++ []
 same-told {D} content old new same = ap (λ (s : StoreView D). event_records old.store.layout (content s.disk)) same ∙ sym (append-nil (event_records old.store.layout (content old.store.disk)))
 
-pub gone-told : {D : Type 0} (told : Type 0) (content : D → List ℕ) (plan : Plan) (old new : DeskView D) → told → HasGoneBehind told content plan old new
+pub gone-told : {D : Type 0} (told : Type 0) (content : D → List ℕ) (may_leave : D → List ℕ → Type 0) (plan : Plan) (old new : DeskView D) → told → HasGoneBehind told content may_leave plan old new
     → event_records old.store.layout (content new.store.disk) ≡ event_records old.store.layout (content old.store.disk) ++ spelled (event_in plan)
-gone-told {D} told content (Rest reply) old new tells gone = same-told content old new (ap (λ (s : DeskView D). s.store) gone)
-gone-told told content (Tell reply event) old new tells gone = (gone.1 tells).events
-gone-told {D} told content (Work job) old new tells gone = same-told content old new (ap (λ (s : DeskView D). s.store) gone)
-gone-told {D} told content (Pass job reply) old new tells gone = same-told content old new (ap (λ (s : DeskView D). s.store) gone)
-gone-told {D} told content (Take job) old new tells gone = same-told content old new (ap (λ (s : DeskView D). s.store) gone)
-gone-told {D} told content (Ask inquiry) old new tells gone = same-told content old new (ap (λ (s : DeskView D). s.store) gone)
-gone-told told content (Wait job code) old new tells gone = same-told content old new gone.1
+gone-told {D} told content may_leave (Rest reply) old new tells gone = same-told content old new (ap (λ (s : DeskView D). s.store) gone)
+gone-told told content may_leave (Tell reply event) old new tells gone = (gone.1 tells).events
+gone-told {D} told content may_leave (Work job) old new tells gone = same-told content old new (ap (λ (s : DeskView D). s.store) gone)
+gone-told {D} told content may_leave (Pass job reply) old new tells gone = same-told content old new (ap (λ (s : DeskView D). s.store) gone)
+gone-told {D} told content may_leave (Take job) old new tells gone = same-told content old new (ap (λ (s : DeskView D). s.store) gone)
+gone-told {D} told content may_leave (Ask inquiry) old new tells gone = same-told content old new (ap (λ (s : DeskView D). s.store) gone)
+gone-told told content may_leave (Wait job code) old new tells gone = same-told content old new gone.1
 
 abbrev state_with : RoomyDesk → Option Event → Bool
 state_with state event = has_room state.room event
@@ -212,7 +211,7 @@ module _ {D : Type 0} (told : Type 0) (content : D → List ℕ) (may_leave : D 
   rest-state reply is = sym (ap (λ (done : TurnDone). record { desk = done.desk; room = room_behind state.room done.event }) (comes-so (Rest reply) is))
 
   -- the run waits
-  module _ (job : ℕ) (code : Code) (is : ComesTo (Wait job code)) (new : DeskView D) (gone : HasGoneBehind told content (Wait job code) old new) where
+  module _ (job : ℕ) (code : Code) (is : ComesTo (Wait job code)) (new : DeskView D) (gone : HasGoneBehind told content may_leave (Wait job code) old new) where
     wait-stands : StandsForDesk old.store.layout new.jobs (content old.store.disk) (turn_of state.desk turn answer).desk
     wait-stands =
         turn-waits old.store.layout old.jobs new.jobs (content old.store.disk) state.desk turn answer job code trusted.stands its
@@ -234,7 +233,7 @@ module _ {D : Type 0} (told : Type 0) (content : D → List ℕ) (may_leave : D 
 
   -- ---- what it comes to
 
-  pub go-fits : (plan : Plan) (new : DeskView D) → ComesTo plan → IsSpelledPlan plan → HasGoneBehind told content plan old new → turn_fits state turn answer ≡ true
+  pub go-fits : (plan : Plan) (new : DeskView D) → ComesTo plan → IsSpelledPlan plan → HasGoneBehind told content may_leave plan old new → turn_fits state turn answer ≡ true
   go-fits (Rest reply) new is shape gone = rest-fits (Rest reply) is refl
   go-fits (Tell reply event) new is shape gone = turn-fits-so told content may_leave size old trusted turn its answer reply event is.0 shape.0 new gone.0
   go-fits (Wait job code) new is shape gone = rest-fits (Wait job code) is refl
@@ -243,35 +242,35 @@ module _ {D : Type 0} (told : Type 0) (content : D → List ℕ) (may_leave : D 
   go-fits (Take job) new is shape gone = absurd is.1
   go-fits (Ask inquiry) new is shape gone = absurd is.1
 
-  pub go-told : (plan : Plan) (new : DeskView D) → ComesTo plan → HasGoneBehind told content plan old new
+  pub go-told : (plan : Plan) (new : DeskView D) → ComesTo plan → HasGoneBehind told content may_leave plan old new
       → event_records old.store.layout (content new.store.disk) ≡ event_records old.store.layout (content old.store.disk) ++ spelled (event_of_turn state turn answer)
   go-told plan new is gone =
       subst (λ (e : Option Event). event_records old.store.layout (content new.store.disk) ≡ event_records old.store.layout (content old.store.disk) ++ spelled e) (go-event plan is)
-      (gone-told told content plan old new trusted.tells gone)
+      (gone-told told content may_leave plan old new trusted.tells gone)
 
   pub go-after : (plan : Plan) (new : DeskView D) → ComesTo plan → PlanStandsAt state.desk old.jobs.points plan → IsSpelledPlan plan → new.store.layout ≡ old.store.layout
-      → HasGoneBehind told content plan old new → IsSettledBehind content may_leave (event_in plan) new → state_of content new ≡ behind_turn state turn answer
-  go-after (Rest reply) new is stands shape same gone settled = ap (λ s. state_of content s) gone ∙ rest-state reply is
-  go-after (Tell reply event) new is stands shape same gone settled =
+      → HasGoneBehind told content may_leave plan old new → state_of content new ≡ behind_turn state turn answer
+  go-after (Rest reply) new is stands shape same gone = ap (λ s. state_of content s) gone ∙ rest-state reply is
+  go-after (Tell reply event) new is stands shape same gone =
       state-behind told content may_leave size old trusted turn its answer reply event is.0 shape.0 new gone.0.might gone.0
-      (behind-turn-so told content may_leave size old trusted turn its answer reply event is.0 shape.0 stands new same trusted.tells gone settled)
-  go-after (Wait job code) new is stands shape same gone settled = wait-state job code is new gone
-  go-after (Work job) new is stands shape same gone settled = absurd is.1
-  go-after (Pass job reply) new is stands shape same gone settled = absurd is.1
-  go-after (Take job) new is stands shape same gone settled = absurd is.1
-  go-after (Ask inquiry) new is stands shape same gone settled = absurd is.1
+      (behind-turn-so told content may_leave size old trusted turn its answer reply event is.0 shape.0 stands new same trusted.tells gone)
+  go-after (Wait job code) new is stands shape same gone = wait-state job code is new gone
+  go-after (Work job) new is stands shape same gone = absurd is.1
+  go-after (Pass job reply) new is stands shape same gone = absurd is.1
+  go-after (Take job) new is stands shape same gone = absurd is.1
+  go-after (Ask inquiry) new is stands shape same gone = absurd is.1
 
   pub go-trusted : (plan : Plan) (new : DeskView D) → ComesTo plan → PlanStandsAt state.desk old.jobs.points plan → IsSpelledPlan plan → new.store.layout ≡ old.store.layout
-      → HasGoneBehind told content plan old new → IsSettledBehind content may_leave (event_in plan) new → IsTrusted told content may_leave new
-  go-trusted (Rest reply) new is stands shape same gone settled = subst (IsTrusted told content may_leave) (sym gone) trusted
-  go-trusted (Tell reply event) new is stands shape same gone settled =
+      → HasGoneBehind told content may_leave plan old new → IsTrusted told content may_leave new
+  go-trusted (Rest reply) new is stands shape same gone = subst (IsTrusted told content may_leave) (sym gone) trusted
+  go-trusted (Tell reply event) new is stands shape same gone =
       trusted-behind told content may_leave event old new _ (coming-turn told content may_leave size old trusted turn its answer reply event is.0 shape.0 gone.0.might)
-      (behind-turn-so told content may_leave size old trusted turn its answer reply event is.0 shape.0 stands new same trusted.tells gone settled) trusted
-  go-trusted (Wait job code) new is stands shape same gone settled = wait-trusted job code is new gone
-  go-trusted (Work job) new is stands shape same gone settled = absurd is.1
-  go-trusted (Pass job reply) new is stands shape same gone settled = absurd is.1
-  go-trusted (Take job) new is stands shape same gone settled = absurd is.1
-  go-trusted (Ask inquiry) new is stands shape same gone settled = absurd is.1
+      (behind-turn-so told content may_leave size old trusted turn its answer reply event is.0 shape.0 stands new same trusted.tells gone) trusted
+  go-trusted (Wait job code) new is stands shape same gone = wait-trusted job code is new gone
+  go-trusted (Work job) new is stands shape same gone = absurd is.1
+  go-trusted (Pass job reply) new is stands shape same gone = absurd is.1
+  go-trusted (Take job) new is stands shape same gone = absurd is.1
+  go-trusted (Ask inquiry) new is stands shape same gone = absurd is.1
 
   -- what a stop leaves
   image-left : (plan : Plan) → ComesTo plan → IsSpelledPlan plan

@@ -59,7 +59,7 @@ use Rattle.ckr_desk_refines.proofs.Units.Desk.{pair, progress-at, unclosed, work
 use Rattle.ckr_desk_refines.proofs.Units.Codes.{coded-behind, coded-but, coded-within}
 use Rattle.ckr_desk_refines.specs.Unit.{IsPutBack, StandsBehindUnit}
 use Rattle.ckr_desk.proofs.Images.Entries.{HasNewOne}
-use Rattle.ckr_desk.proofs.Images.Soundness.{again-so}
+use Rattle.ckr_desk.proofs.Images.LastRecord.{again-so}
 use Rattle.ckr_desk.proofs.Images.WrittenRecord.{TellsRecord}
 use Rattle.ckr_desk.proofs.Openings.LastRecord.{IsDue, due-so}
 use Rattle.ckr_desk.proofs.Turns.Events.{quiet-lacks, quiet-rewrites, quiet-takes, quiet-tells, quiet-written}

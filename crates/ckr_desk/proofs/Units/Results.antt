@@ -15,10 +15,10 @@ use Rattle.ckr_points.specs.declared.reply.Reply.{Reply}
 use Rattle.ckr_desk_turn.specs.Turns.{MountedTurn, plan_for}
 use Rattle.ckr_volumes.specs.declared.layout.Layout.{Layout}
 use Rattle.ckr_desk.proofs.Turns.Plans.{gone-told}
-use Rattle.ckr_desk.proofs.Units.Turn.{behind-kept, event-so, reply-so, rest-state, rest-trusted, unit-has_room, unit-kept, unit-state, unit-trusted}
+use Rattle.ckr_desk.proofs.Units.Stops.{behind-kept}
+use Rattle.ckr_desk.proofs.Units.Turn.{event-so, reply-so, rest-state, rest-trusted, unit-has_room, unit-kept, unit-state, unit-trusted}
 use Rattle.ckr_desk.specs.Requests.{FailsBy, has_room, spelled}
 use Rattle.ckr_desk.specs.Rewrite.{IsFault}
-use Rattle.ckr_desk.specs.Calls.{IsSettledBehind}
 use Rattle.ckr_desk.specs.declared.error.DeskError.{DeskError}
 use Rattle.ckr_desk.specs.declared.error.DeskError.TheVariants.{NoMemory, DiskFault, BookFull, Stopped}
 use Rattle.ckr_desk.specs.Soundness.{HasKept, IsTrusted, KeepsWithin, state_of}
@@ -77,9 +77,9 @@ module _ {D : Type 0} (told : Type 0) (content : D → List ℕ) (may_leave : D 
         by (Ask inquiry) is = none (ap event_in is)
         by (Wait job code) is = none (ap event_in is)
 
-    module _ (new : DeskView D) (gone : HasGoneBehind told content plan mid new) where
-      told-so : (reply : Reply) (event : Event) → plan ≡ Tell reply event → HasGoneBehind told content (Tell reply event) mid new
-      told-so reply event is = subst (λ (p : Plan). HasGoneBehind told content p mid new) is gone
+    module _ (new : DeskView D) (gone : HasGoneBehind told content may_leave plan mid new) where
+      told-so : (reply : Reply) (event : Event) → plan ≡ Tell reply event → HasGoneBehind told content may_leave (Tell reply event) mid new
+      told-so reply event is = subst (λ (p : Plan). HasGoneBehind told content may_leave p mid new) is gone
 
       pub done-fits : turn_fits state turn answer ≡ true
       unfolding turn_fits
@@ -93,23 +93,20 @@ module _ {D : Type 0} (told : Type 0) (content : D → List ℕ) (may_leave : D 
           let layouts : mid.store.layout ≡ old.store.layout = ap (λ (store : StoreView D). store.layout) done.store in
           subst (λ (e : Option Event). event_records old.store.layout (content new.store.disk) ≡ before ++ spelled e) event-of
           (subst (λ (l : Layout). event_records l (content new.store.disk) ≡ event_records l (content mid.store.disk) ++ spelled (event_in plan)) layouts
-          (gone-told told content plan mid new trusted.tells gone)
+          (gone-told told content may_leave plan mid new trusted.tells gone)
           ∙ ap (λ records. records ++ spelled (event_in plan)) events)
 
-      module _ (same : new.store.layout ≡ old.store.layout) (settled : IsSettledBehind content may_leave (event_in plan) new) where
-        settled-so : (event : Event) → event_in plan ≡ Some event → IsSettledBehind content may_leave (Some event) new
-        settled-so event is = subst (λ (e : Option Event). IsSettledBehind content may_leave e new) is settled
-
+      module _ (same : new.store.layout ≡ old.store.layout) where
         pub done-after : state_of content new ≡ behind_turn state turn answer
         done-after =
             by-plan (state_of content new ≡ behind_turn state turn answer)
-            (λ reply event is. unit-state told content may_leave moment left_since size old trusted turn run planned answer mid plan done events shape stems event (ap event_in is) new same reply (told-so reply event is) (settled-so event (ap event_in is)))
+            (λ reply event is. unit-state told content may_leave moment left_since size old trusted turn run planned answer mid plan done events shape stems event (ap event_in is) new same reply (told-so reply event is))
             (λ none. rest-state told content may_leave moment left_since size old trusted turn run planned answer mid plan done events shape stems new gone none)
 
         pub done-trusted : IsTrusted told content may_leave new
         done-trusted =
             by-plan (IsTrusted told content may_leave new)
-            (λ reply event is. unit-trusted told content may_leave moment left_since size old trusted turn run planned answer mid plan done events shape stems event (ap event_in is) new same reply (told-so reply event is) (settled-so event (ap event_in is)))
+            (λ reply event is. unit-trusted told content may_leave moment left_since size old trusted turn run planned answer mid plan done events shape stems event (ap event_in is) new same reply (told-so reply event is))
             (λ none. rest-trusted told content may_leave moment left_since size old trusted turn run planned answer mid plan done events shape stems new gone none)
 
     -- ---- what a stop leaves

@@ -1,17 +1,11 @@
 -- A turn that works, with the operator's answer if it asks him: the unit of its running step, the desk behind it, and what a stop leaves.
-use Rattle.std.proofs.Common.{◌≡◌, ◌≤◌, ◌+◌, ◌-◌, ◌++◌, ◌&&◌, ℕ, Bool, List, [], ◌∷◌, true, false, length, take, find, refl, ap, sym, ◌∙◌, subst, ◌⊎◌, ⊎_elim, inl, inr, arith, Option, Some, None, Ok}
+use Rattle.std.proofs.Common.{◌≡◌, ◌≤◌, ◌+◌, ◌-◌, ◌++◌, ◌&&◌, ℕ, List, [], ◌∷◌, true, false, length, find, refl, ap, sym, ◌∙◌, subst, ◌⊎◌, ⊎_elim, inl, inr, arith, Option, Some, None, Ok}
 use Rattle.std.proofs.lemmas.Bool.{and_from, le-leb}
-use Rattle.std.specs.Option.{is_some, option_map_or}
-use Rattle.std.proofs.lemmas.Option.{same_Some}
 use Rattle.ckr_base.proofs.Options.{some-not-none}
-use Rattle.arrayvec.specs.ArrayVec.{ArrayVec}
-use Rattle.ckr_book.specs.Book.{IsBeforeOrAfter, ends_closed, room_of}
+use Rattle.ckr_book.specs.Book.{room_of}
 use Rattle.ckr_base.specs.declared.code.Code.{Code}
 use Rattle.ckr_console.specs.declared.question.Answer.{Answer}
-use Rattle.ckr_console.specs.declared.question.Answer.TheVariants.{Yes, No, Hold, Silent}
-use Rattle.ckr_events.specs.declared.event.Ending.TheVariants.{Coded}
 use Rattle.ckr_events.specs.declared.event.Event.{Event}
-use Rattle.ckr_events.specs.declared.event.Event.TheVariants.{Ended, Held, Restarted}
 use Rattle.ckr_events.specs.Event.{spelling}
 use Rattle.ckr_desk_memory.specs.Model.RewriteCounts.{may_count}
 use Rattle.ckr_jcl.specs.declared.deck.Job.{Job}
@@ -20,22 +14,15 @@ use Rattle.ckr_desk_memory.specs.Plans.{IsSpelledPlan, told_by}
 use Rattle.ckr_desk_memory.specs.Replay.{deck_of, goes_on, has_few_digits}
 use Rattle.ckr_desk.proofs.Turns.Events.{small-digits}
 use Rattle.ckr_desk_memory.specs.View.{RunningStepView, jobs_of, running_of}
-use Rattle.ckr_desk_refines.proofs.Durable.Units.{committed-kept}
 use Rattle.ckr_desk_refines.proofs.Entries.Images.{keeping-kept}
-use Rattle.ckr_desk_refines.specs.Commits.{HasCommitted}
 use Rattle.ckr_desk_refines.specs.Entries.{HasEntries, OnlyCheckSetsKeep, SameKept}
-use Rattle.ckr_library.specs.NameMaps.{Name}
 use Rattle.ckr_meaning.specs.EffectiveJob.{OwnedStep, names_of}
-use Rattle.ckr_outside.specs.Disk.{part}
 use Rattle.ckr_points.specs.Events.{AreSound, IsNext}
 use Rattle.ckr_points.specs.Follows.{follows}
 use Rattle.ckr_points.specs.Office.{Office, office_after}
 use Rattle.ckr_points.specs.Restart.{after_event, place_of, step_in}
 use Rattle.ckr_points.specs.Rows.{RunRow, TablesModel, no_tables, run_of, step_of_run}
 use Rattle.ckr_points.specs.Soundness.{AreLaidOut}
-use Rattle.ckr_rules.specs.RuleTables.{rule_number}
-use Rattle.ckr_rules.specs.declared.cases.Rule.{Rule}
-use Rattle.ckr_rules.specs.declared.cases.Rule.TheVariants.{A6}
 use Rattle.ckr_desk_refines.proofs.Standing.Plans.{plans-so}
 use Rattle.ckr_desk_refines.proofs.Standing.DeskView.{desk-so}
 use Rattle.ckr_desk_refines.specs.RewriteRecord.{HasCommittedAgain, HasLast, last_event}
@@ -44,87 +31,45 @@ use Rattle.ckr_desk_refines.specs.Standing.{StandsForDesk, desk_seen}
 use Rattle.ckr_steps.specs.declared.step_run.Worked.{Worked as Outcome}
 use Rattle.ckr_steps.specs.declared.step_run.Worked.TheVariants.{Abend, Rewrite, Went}
 use Rattle.ckr_steps.specs.Writes.{Keeps}
-use Rattle.ckr_desk_store.specs.OpenImages.{Opens, event_records}
+use Rattle.ckr_desk_store.specs.OpenImages.{event_records}
 use Rattle.ckr_desk_store.specs.State.{StoreView}
-use Rattle.ckr_desk_refines.proofs.Events.Commits.{committed-moves}
 use Rattle.ckr_desk_turn.proofs.Codes.{by-verdict}
-use Rattle.ckr_desk_turn.specs.Codes.{CodePlaceModel, initiator_of, inquiry_of, running_reached}
-use Rattle.ckr_desk_turn.specs.Inquiries.{decide, decided, is_ask}
-use Rattle.ckr_desk_turn.specs.Jobs.{TurnStep, as_stopped, step_name_of}
+use Rattle.ckr_desk_turn.specs.Codes.{initiator_of, running_reached}
+use Rattle.ckr_desk_turn.specs.Inquiries.{decide, is_ask}
+use Rattle.ckr_desk_turn.specs.Jobs.{step_name_of}
 use Rattle.ckr_desk_turn.specs.declared.plan.Plan.{Plan}
-use Rattle.ckr_desk_turn.specs.declared.plan.Plan.TheVariants.{Rest, Tell, Work, Pass, Take, Ask, Wait}
+use Rattle.ckr_desk_turn.specs.declared.plan.Plan.TheVariants.{Rest, Tell, Work, Wait}
 use Rattle.ckr_points.specs.declared.reply.Reply.{Reply}
 use Rattle.ckr_points.specs.declared.reply.Reply.TheVariants.{Worked}
 use Rattle.ckr_desk_turn.specs.Turns.{carried_out, MountedTurn, plan_for, turn_of}
-use Rattle.ckr_desk_turn.specs.Desk.{DeskModel, TurnDone, done_by, progress_of, start_of, with_progress, work_of, jobs_of as jobs_of_desk}
-use Rattle.ckr_desk_turn.specs.Units.{unit_end}
+use Rattle.ckr_desk_turn.specs.Desk.{DeskModel, TurnDone, work_of, jobs_of as jobs_of_desk}
 use Rattle.ckr_desk_turn.specs.Spelling.{IsSpelled}
 use Rattle.ckr_volumes.specs.declared.layout.Layout.{Layout}
-use Rattle.ckr_volumes.specs.Header.{header_of}
-use Rattle.ckr_desk_refines.proofs.Units.Desk.{committed-so, run-moved, went-stands}
+use Rattle.ckr_desk_refines.proofs.Units.Desk.{run-moved, went-stands}
 use Rattle.ckr_desk_refines.proofs.Units.StepLists.{IsPair, pair-of}
 use Rattle.ckr_desk_refines.proofs.Units.AnyReply.{told-unit}
-use Rattle.ckr_desk_refines.proofs.Units.Replies.{TellsSo, plain_of}
+use Rattle.ckr_desk_refines.proofs.Units.Replies.{TellsSo}
 use Rattle.ckr_desk_refines.proofs.Units.Waits.{coded-waits}
 use Rattle.ckr_desk_refines.proofs.Units.Turns.{within-so}
 use Rattle.ckr_desk_refines.specs.Unit.{IsPutBack, StandsBehindUnit}
-use Rattle.ckr_desk.proofs.Units.Events.{Ensues, ended-ensues, held-ensues, restarted-ensues, rewrite-ensues}
+use Rattle.ckr_desk.proofs.Units.Events.{Ensues, rewrite-ensues}
 use Rattle.ckr_desk.proofs.Images.NextEvent.{deck-none, office-same}
 use Rattle.ckr_desk.proofs.Images.Entries.{behind-kept as entries-behind, behind-same as entries-behind-same, checks-then, kept-has, laid-then, same-has, tables-behind}
-use Rattle.ckr_desk.proofs.Images.Soundness.{kept-before, kept-behind}
+use Rattle.ckr_desk.proofs.Images.LastRecord.{again-keeping}
+use Rattle.ckr_desk.proofs.Images.Soundness.{kept-before}
 use Rattle.ckr_desk.proofs.Images.WrittenRecord.{TellsRecord, told-lacking, told-written}
 use Rattle.ckr_desk.proofs.Trust.Events.{IsBehind, IsComing, desk-behind, trusted-behind}
 use Rattle.ckr_desk.proofs.Trust.Conditions.{goes-out, shows-in, worked-out}
 use Rattle.ckr_desk.specs.Requests.{has_room, room_behind}
-use Rattle.ckr_desk.specs.Calls.{HasGoneOn, IsLeftBy, IsSettledBehind, may_keep}
-use Rattle.ckr_desk.specs.Rewrite.{IsWrittenBy, LacksAtMost, OpensSame}
+use Rattle.ckr_desk.specs.Calls.{HasGoneOn, may_keep}
+use Rattle.ckr_desk.specs.Rewrite.{IsWrittenBy, LacksAtMost}
 use Rattle.ckr_desk.specs.Turn.{asks, behind_turn, event_of_turn, reply_of}
-use Rattle.ckr_desk.specs.Units.{HasDoneUnit, HasGoneBehind, HasWrittenBehind, IsLeftBehind, IsLeftByUnit, IsLeftRewriting, StemsFromUnit}
+use Rattle.ckr_desk.specs.Units.{HasDoneUnit, HasGoneBehind, HasWrittenBehind, IsLeftByUnit, StemsFromUnit}
 use Rattle.ckr_desk.specs.Opening.{behind_records}
 use Rattle.ckr_desk.specs.Soundness.{HasKept, IsTrusted, events_in, last_on, office_on, state_of}
 use Rattle.ckr_desk.specs.State.{RoomyDesk, DeskView, need_of}
-
--- a step that has stopped has made the same writes
-stopped-writes : (code : Option Code) (step : TurnStep) → (as_stopped code step).writes ≡ step.writes
-stopped-writes None step = refl
-stopped-writes (Some code) step = refl
-
--- what is said of a plan with an event is said of the event
-spelled-in : (plan : Plan) → IsSpelledPlan plan → (event : Event) → event_in plan ≡ Some event → IsSpelled event
-spelled-in (Rest reply) shape event is = absurd (some-not-none event (sym is))
-spelled-in (Tell reply told) shape event is = subst IsSpelled (same_Some told event is) shape.0
-spelled-in (Work job) shape event is = absurd (some-not-none event (sym is))
-spelled-in (Pass job reply) shape event is = absurd (some-not-none event (sym is))
-spelled-in (Take job) shape event is = absurd (some-not-none event (sym is))
-spelled-in (Ask inquiry) shape event is = absurd (some-not-none event (sym is))
-spelled-in (Wait job code) shape event is = absurd (some-not-none event (sym is))
-
--- ---- a unit that tells no event leaves what the events have brought about
-
-plan-office : (plan : Plan) (desk : DeskModel) → (done_by plan desk).event ≡ None → (done_by plan desk).desk.office ≡ desk.office
-plan-office (Tell reply event) desk none = absurd (some-not-none event none)
-plan-office _ desk none = refl
-
-either-office : {X : Type 0} (office : Office) (o : Option X) (f : X → TurnDone) (none : TurnDone) → (none.event ≡ None → none.desk.office ≡ office) → ((x : X) → (f x).event ≡ None → (f x).desk.office ≡ office)
-    → (option_map_or f o none).event ≡ None → (option_map_or f o none).desk.office ≡ office
-either-office office None f none first second = first
-either-office office (Some x) f none first second = second x
-
-pub work-office : (answer : Answer) (run : ℕ) (desk : DeskModel) → (work_of answer run desk).event ≡ None → (work_of answer run desk).desk.office ≡ desk.office
-work-office answer run desk =
-    either-office desk.office (run_of desk.office.tables run) _ _ (λ none. refl)
-    (λ row. either-office desk.office (start_of desk.office row) _ _ (λ none. refl)
-    (λ start. either-office desk.office (progress_of desk run) _ _ (λ none. refl)
-    (λ progress. plan-office _ (with_progress row.number (unit_end start progress).progress desk))))
-
--- ---- what is told of a code with the operator's answer, if it is no event
-
-waits-by : (answer : Answer) (row : RunRow) (initiator : ℕ) (code : Code) (reached : CodePlaceModel) (id : Option Name) (taken : ℕ) → event_in (decided answer (inquiry_of row initiator true code reached id taken)) ≡ None
-    → decided answer (inquiry_of row initiator true code reached id taken) ≡ Wait row.number code
-waits-by Yes row initiator code reached id taken none = absurd (some-not-none _ none)
-waits-by No row initiator code reached id taken none = absurd (some-not-none _ none)
-waits-by Hold row initiator code reached id taken none = absurd (some-not-none _ none)
-waits-by Silent row initiator code reached id taken none = refl
+use Rattle.ckr_desk.proofs.Units.Plans.{spelled-in, waits-by, work-office}
+use Rattle.ckr_desk.proofs.Units.CodeEvents.{code-ensues}
 
 module _ {D : Type 0} (told : Type 0) (content : D → List ℕ) (may_leave : D → List ℕ → Type 0) (moment : D → ℕ) (left_since : D → ℕ → List ℕ → Type 0) (size : D → ℕ)
     (old : DeskView D) (trusted : IsTrusted told content may_leave old) (turn : MountedTurn) (run : ℕ)
@@ -160,12 +105,15 @@ module _ {D : Type 0} (told : Type 0) (content : D → List ℕ) (may_leave : D 
 
   -- ---- what a stop within it leaves
 
-  stems-committed : (left : List ℕ) → StemsFromUnit may_leave run old left → HasCommitted layout office left
+  abbrev last_now : Option Event
+  last_now = last_on layout image
+
+  stems-committed : (left : List ℕ) → StemsFromUnit may_leave run old left → HasCommittedAgain layout office last_now left
   stems-committed left stems =
       let on : RunningStepView = stems.0 in
       let from : List ℕ = stems.2.0 in
       let pair : IsPair layout office image run on desk.running = pair-of layout office image run on old.jobs.running desk.running trusted.stands.running trusted.stands.is_desk.going stems.1 in
-      committed-kept layout office.tables.sets (names_of pair.stands.start.root pair.stands.start.owned) on.sets trusted.stands.is_desk.kept.events.extents pair.stands.sets from left stems.2.2 office refl
+      again-keeping layout office last_now (names_of pair.stands.start.root pair.stands.start.owned) on.sets trusted.stands.is_desk.kept.events.extents pair.stands.sets from left stems.2.2
       (trusted.committed from stems.2.1)
 
   -- a unit keeps the entries: they stand within what its step has
@@ -180,7 +128,7 @@ module _ {D : Type 0} (told : Type 0) (content : D → List ℕ) (may_leave : D 
       (λ (may : may_leave old.store.disk left). trusted.entries_left left may)
       (λ (stems : StemsFromUnit may_leave run old left). keeps-entries stems.0 stems.1 stems.2.0 left stems.2.2 (trusted.entries_left stems.2.0 stems.2.1)) by.1
 
-  left-committed : (left : List ℕ) → IsLeftByUnit content may_leave size run old left → HasCommitted layout office left
+  left-committed : (left : List ℕ) → IsLeftByUnit content may_leave size run old left → HasCommittedAgain layout office last_now left
   left-committed left by = ⊎_elim (λ (may : may_leave old.store.disk left). trusted.committed left may) (λ (stems : StemsFromUnit may_leave run old left). stems-committed left stems) by.1
 
   pub unit-kept : (came : List (List ℕ)) (left : List ℕ) → IsLeftByUnit content may_leave size run old left → HasKept layout (size old.store.disk) (event_records layout image) came left
@@ -199,7 +147,7 @@ module _ {D : Type 0} (told : Type 0) (content : D → List ℕ) (may_leave : D 
     moved = done.moved
 
     -- on this disk
-    unit-done : StandsBehindUnit layout old.jobs image after desk turn run on moved done.worked
+    pub unit-done : StandsBehindUnit layout old.jobs image after desk turn run on moved done.worked
     unit-done = record {
       stands = trusted.stands;
       planned = at-desk;
@@ -219,7 +167,7 @@ module _ {D : Type 0} (told : Type 0) (content : D → List ℕ) (may_leave : D 
     put-back : IsPutBack run moved old.jobs mid.jobs
     put-back = record { tables = done.tables; failed = done.failed; running = done.running; points = done.points }
 
-    layout-same : mid.store.layout ≡ layout
+    pub layout-same : mid.store.layout ≡ layout
     layout-same = ap (λ (store : StoreView D). store.layout) done.store
 
     room-same : room_of mid.store.book ≡ room_of old.store.book
@@ -298,14 +246,14 @@ module _ {D : Type 0} (told : Type 0) (content : D → List ℕ) (may_leave : D 
     office-after : office_on layout after ≡ office
     office-after = office-same layout image after events
 
-    last-after : last_on layout after ≡ last_on layout image
+    last-after : last_on layout after ≡ last_now
     unfolding last_on
     last-after = ap (λ records. last_event (events_in records)) events
 
     -- the unit is done, and its run waits if it has stopped
-    module _ (new : DeskView D) (gone : HasGoneBehind told content plan mid new) (none : event_in plan ≡ None) where
-      gone-by : (other : Plan) → plan ≡ other → HasGoneBehind told content other mid new
-      gone-by other is = subst (λ (p : Plan). HasGoneBehind told content p mid new) is gone
+    module _ (new : DeskView D) (gone : HasGoneBehind told content may_leave plan mid new) (none : event_in plan ≡ None) where
+      gone-by : (other : Plan) → plan ≡ other → HasGoneBehind told content may_leave other mid new
+      gone-by other is = subst (λ (p : Plan). HasGoneBehind told content may_leave p mid new) is gone
 
       abbrev IsRested : Type 0
       IsRested = StandsForDesk layout new.jobs after (work_of answer run desk).desk × (new.jobs.tables.desk ≡ mid.jobs.tables.desk) × (new.store ≡ mid.store)
@@ -324,7 +272,7 @@ module _ {D : Type 0} (told : Type 0) (content : D → List ℕ) (may_leave : D 
               )
           by (inr stopped) =
               let ended : StandsBehindUnit layout old.jobs image after desk turn run on moved (Abend stopped.code) = subst (StandsBehindUnit layout old.jobs image after desk turn run on moved) stopped.worked unit-done in
-              let its : HasGoneBehind told content (Wait run stopped.code) mid new = gone-by (Wait run stopped.code) (plan-by (Abend stopped.code) stopped.worked ∙ stopped.waits) in (
+              let its : HasGoneBehind told content may_leave (Wait run stopped.code) mid new = gone-by (Wait run stopped.code) (plan-by (Abend stopped.code) stopped.worked ∙ stopped.waits) in (
                 coded-waits layout old.jobs image after desk turn run on moved stopped.code answer ended mid.jobs put-back row row-within.2 stopped.waits new.jobs its.0,
                 its.0.tables,
                 its.1,
@@ -341,6 +289,9 @@ module _ {D : Type 0} (told : Type 0) (content : D → List ℕ) (may_leave : D 
 
       office-then : office_on layout (content new.store.disk) ≡ office
       office-then = ap (office_on layout) reads-then ∙ office-after
+
+      last-then : last_on layout (content new.store.disk) ≡ last_now
+      last-then = ap (last_on layout) reads-then ∙ last-after
 
       rest-desk : (work_of answer run desk).desk ≡ (state_of content new).desk
       rest-desk =
@@ -372,8 +323,9 @@ module _ {D : Type 0} (told : Type 0) (content : D → List ℕ) (may_leave : D 
             (subst (λ bytes. HasLast (office_on layout bytes) (last_on layout bytes)) (sym reads-then)
             (subst (λ (o : Office). HasLast o (last_on layout after)) (sym office-after) (subst (HasLast office) (sym last-after) trusted.last)));
         committed = λ left may.
-            subst (λ (l : Layout). HasCommitted l (office_on l (content new.store.disk)) left) (sym layout-then)
-            (subst (λ (o : Office). HasCommitted layout o left) (sym office-then) (left-committed left (stems-then left may)));
+            subst (λ (l : Layout). HasCommittedAgain l (office_on l (content new.store.disk)) (last_on l (content new.store.disk)) left) (sym layout-then)
+            (subst (λ (o : Office). HasCommittedAgain layout o (last_on layout (content new.store.disk)) left) (sym office-then)
+            (subst (λ (e : Option Event). HasCommittedAgain layout office e left) (sym last-then) (left-committed left (stems-then left may))));
         entries = entries-rest (content new.store.disk) (subst (HasEntries layout office) (sym reads-then) entries-after);
         entries_left = λ left may. entries-rest left (left-entries left (stems-then left may));
       }
@@ -407,52 +359,7 @@ module _ {D : Type 0} (told : Type 0) (content : D → List ℕ) (may_leave : D 
       abbrev event_by : Outcome → Option Event
       event_by worked = event_in (decide answer (told_by layout office.tables row (running_of office.tables moved) worked))
 
-      abbrev lengths : ArrayVec ℕ
-      lengths = record { items = (running_of office.tables moved).lengths }
-
-      -- the step ends with a code: its run ends by a rule, or the operator decides
-      module _ (code : Code) (unit-coded : StandsBehindUnit layout old.jobs image after desk turn run on moved (Abend code)) where
-        abbrev reached : CodePlaceModel
-        reached = running_reached (running_of office.tables moved)
-
-        writes-so : reached.writes ≡ moved.step.writes
-        writes-so = stopped-writes moved.code (plain_of office.tables moved)
-
-        end-ensues : (rule : Rule) → Some (Ended row.number (Coded code (rule_number rule) reached.writes lengths)) ≡ Some event → Ensues mid.jobs after desk run answer event
-        end-ensues rule tells =
-            let told_is : Ended run (Coded code (rule_number rule) moved.step.writes lengths) ≡ event =
-            ap (λ n. Ended run (Coded code (rule_number rule) n lengths)) (sym writes-so)
-            ∙ ap (λ n. Ended n (Coded code (rule_number rule) reached.writes lengths)) (sym row-within.4) ∙ same_Some _ event tells in
-            subst (Ensues mid.jobs after desk run answer) told_is
-            (ended-ensues old.jobs image after desk turn run on moved code unit-coded mid.jobs put-back answer (rule_number rule) lengths (event-then ∙ ap Some (sym told_is)))
-
-        hold-ensues : Some (Held row.number code reached.writes lengths) ≡ Some event → Ensues mid.jobs after desk run answer event
-        hold-ensues tells =
-            let told_is : Held run code moved.step.writes lengths ≡ event =
-            ap (λ n. Held run code n lengths) (sym writes-so) ∙ ap (λ n. Held n code reached.writes lengths) (sym row-within.4) ∙ same_Some _ event tells in
-            subst (Ensues mid.jobs after desk run answer) told_is
-            (held-ensues old.jobs image after desk turn run on moved code unit-coded mid.jobs put-back answer lengths (event-then ∙ ap Some (sym told_is)))
-
-        restart-ensues : (checkpoint : Bool) → Some (Restarted row.number (initiator_of row) code checkpoint) ≡ Some event → Ensues mid.jobs after desk run answer event
-        restart-ensues checkpoint tells =
-            let told_is : Restarted run (initiator_of row) code checkpoint ≡ event = ap (λ n. Restarted n (initiator_of row) code checkpoint) (sym row-within.4) ∙ same_Some _ event tells in
-            subst (Ensues mid.jobs after desk run answer) told_is
-            (restarted-ensues old.jobs image after desk turn run on moved code unit-coded mid.jobs put-back answer (initiator_of row) checkpoint (event-then ∙ ap Some (sym told_is)))
-
-        answer-ensues : (its : Answer) (id : Option Name) (count : ℕ) → event_in (decided its (inquiry_of row (initiator_of row) true code reached id count)) ≡ Some event → Ensues mid.jobs after desk run answer event
-        answer-ensues Yes id count tells = restart-ensues (is_some id) tells
-        answer-ensues No id count tells = end-ensues A6 tells
-        answer-ensues Hold id count tells = hold-ensues tells
-        answer-ensues Silent id count tells = absurd (some-not-none event (sym tells))
-
-        code-ensues : event_by (Abend code) ≡ Some event → Ensues mid.jobs after desk run answer event
-        code-ensues =
-            by-verdict (λ its. event_in (decide answer its) ≡ Some event → Ensues mid.jobs after desk run answer event) layout office.tables row (initiator_of row) true code reached
-            (λ rule ends tells. end-ensues rule tells)
-            (λ judged tells. answer-ensues answer None 0 tells)
-            (λ entry judged found tells. answer-ensues answer (Some entry.kept.id) entry.point.taken tells)
-
-      ensues : Ensues mid.jobs after desk run answer event
+      pub ensues : Ensues mid.jobs after desk run answer event
       ensues = by done.worked refl
         where
           by : (worked : Outcome) → done.worked ≡ worked → Ensues mid.jobs after desk run answer event
@@ -460,9 +367,10 @@ module _ {D : Type 0} (told : Type 0) (content : D → List ℕ) (may_leave : D 
           by (Rewrite place bytes count) same =
               rewrite-ensues old.jobs image after desk turn run on moved place bytes count (subst (StandsBehindUnit layout old.jobs image after desk turn run on moved) same unit-done) mid.jobs put-back answer event event-then
           by (Abend code) same =
-              code-ensues code (subst (StandsBehindUnit layout old.jobs image after desk turn run on moved) same unit-done) (sym (ap event_by same) ∙ sym (ap event_in plan-so) ∙ is)
+              code-ensues old.jobs image after desk turn run on moved code (subst (StandsBehindUnit layout old.jobs image after desk turn run on moved) same unit-done) mid.jobs put-back answer row row-within.4 event event-then
+              (sym (ap event_by same) ∙ sym (ap event_in plan-so) ∙ is)
 
-      tables-mid : mid.jobs.tables.desk ≡ office.tables
+      pub tables-mid : mid.jobs.tables.desk ≡ office.tables
       tables-mid = done.tables ∙ trusted.stands.tables
 
       event-is : event_of_turn (state_of content old) turn answer ≡ Some event
@@ -475,7 +383,7 @@ module _ {D : Type 0} (told : Type 0) (content : D → List ℕ) (may_leave : D 
 
       -- ---- the desk behind it
 
-      coming : may_keep event None mid ≡ true → IsComing told content may_leave event old then
+      pub coming : may_keep event None mid ≡ true → IsComing told content may_leave event old then
       coming might = record {
         is_event = spelled-so.event;
         goes = subst (λ (d : Option Job). goes_on layout old.jobs.tables.desk event d ≡ true) (sym none-decked)
@@ -494,10 +402,10 @@ module _ {D : Type 0} (told : Type 0) (content : D → List ℕ) (may_leave : D 
       tables-then : after_event event None office.tables ≡ then.office.tables
       tables-then = sym (ap (λ (o : Office). o.tables) ensues.office ∙ tables-behind office event None)
 
-      entries-told : (told_on : List ℕ) → HasSameRecords layout after told_on → HasEntries layout office told_on
+      pub entries-told : (told_on : List ℕ) → HasSameRecords layout after told_on → HasEntries layout office told_on
       entries-told told_on same = same-has told content may_leave old trusted after told_on entries-after same
 
-      entries-same : may_keep event None mid ≡ true → (left : List ℕ) → HasSameRecords layout after left → HasEntries layout then.office left
+      pub entries-same : may_keep event None mid ≡ true → (left : List ℕ) → HasSameRecords layout after left → HasEntries layout then.office left
       entries-same might left same = entries-behind-same told content may_leave old trusted event then (coming might) after left (ensues.takes layout office after) entries-after same
 
       -- and where the record that the event tells is written, or lacks at most
@@ -514,28 +422,48 @@ module _ {D : Type 0} (told : Type 0) (content : D → List ℕ) (may_leave : D 
           (λ tables laid checks is.
           told-written layout tables laid checks event (subst (λ (t : TablesModel). TellsRecord t event) is ensues.record_told) told_on left (subst (λ (t : TablesModel). IsWrittenBy layout t event told_on left) is written))
 
-      entries-lacking : may_keep event None mid ≡ true → (told_on left : List ℕ) → HasSameRecords layout after told_on → LacksAtMost layout (after_event event None office.tables) event told_on left → HasEntries layout then.office left
+      pub entries-lacking : may_keep event None mid ≡ true → (told_on left : List ℕ) → HasSameRecords layout after told_on → LacksAtMost layout (after_event event None office.tables) event told_on left → HasEntries layout then.office left
       entries-lacking might told_on left same lacks =
           entries-changed might told_on left same
           (λ tables laid checks is.
           told-lacking layout tables laid checks event (subst (λ (t : TablesModel). TellsRecord t event) is ensues.record_told) told_on left (subst (λ (t : TablesModel). LacksAtMost layout t event told_on left) is lacks))
 
-      module _ (new : DeskView D) (same : new.store.layout ≡ old.store.layout) (reply : Reply) (gone : HasGoneBehind told content (Tell reply event) mid new) (settled : IsSettledBehind content may_leave (Some event) new) where
-        behind-so : IsBehind told content may_leave event old new then
-        behind-so =
-            let written : HasWrittenBehind content event mid new = gone.1 trusted.tells in
-            let same_records : HasSameRecords layout after written.told_on = subst (λ (l : Layout). HasSameRecords l after written.told_on) layout-same written.same in
-            let written_by : IsWrittenBy layout (after_event event None office.tables) event written.told_on (content new.store.disk) =
+      module _ (new : DeskView D) (same : new.store.layout ≡ old.store.layout) (reply : Reply) (gone : HasGoneBehind told content may_leave (Tell reply event) mid new) where
+        written : HasWrittenBehind content may_leave event mid new
+        written = gone.1 trusted.tells
+
+        tables-so : new.jobs.tables.desk ≡ after_event event None office.tables
+        tables-so = gone.0.moved.tables ∙ ap (after_event event None) tables-mid
+
+        same-told : HasSameRecords layout after written.told_on
+        same-told = subst (λ (l : Layout). HasSameRecords l after written.told_on) layout-same written.same
+
+        written-so : IsWrittenBy layout (after_event event None office.tables) event written.told_on (content new.store.disk)
+        written-so =
             subst (λ (l : Layout). IsWrittenBy l (after_event event None office.tables) event written.told_on (content new.store.disk)) layout-same
-            (subst (λ (tables : TablesModel). IsWrittenBy mid.store.layout tables event written.told_on (content new.store.disk)) (gone.0.moved.tables ∙ ap (after_event event None) tables-mid) written.written) in
-            record {
-              layout = same;
-              events = subst (λ (l : Layout). event_records l (content new.store.disk) ≡ event_records l after ++ spelling event ∷ []) layout-same written.events ∙ ap (λ records. records ++ spelling event ∷ []) events;
-              tables = gone.0.moved.tables ∙ ap (after_event event None) done.tables ∙ ap (λ (d : Option Job). after_event event d old.jobs.tables.desk) (sym none-decked);
-              stands = ensues.stands new.jobs gone.0.moved written.told_on (content new.store.disk) same_records written_by;
-              entries = entries-written gone.0.might written.told_on (content new.store.disk) same_records written_by;
-              settled = settled;
-            }
+            (subst (λ (tables : TablesModel). IsWrittenBy mid.store.layout tables event written.told_on (content new.store.disk)) tables-so written.written)
+
+        -- a stop leaves what was told on, or lacks at most the record
+        by-image : (P : List ℕ → Type 0) → P written.told_on → ((left : List ℕ) → LacksAtMost layout (after_event event None office.tables) event written.told_on left → P left)
+            → (left : List ℕ) → may_leave new.store.disk left → P left
+        by-image P whole lacking left may = ⊎_elim
+            (λ (same_bytes : left ≡ written.told_on). subst P (sym same_bytes) whole)
+            (λ (lacks : LacksAtMost mid.store.layout new.jobs.tables.desk event written.told_on left).
+            lacking left
+            (subst (λ (l : Layout). LacksAtMost l (after_event event None office.tables) event written.told_on left) layout-same
+            (subst (λ (tables : TablesModel). LacksAtMost mid.store.layout tables event written.told_on left) tables-so lacks)))
+            (written.left left may)
+
+        behind-so : IsBehind told content may_leave event old new then
+        behind-so = record {
+          layout = same;
+          events = subst (λ (l : Layout). event_records l (content new.store.disk) ≡ event_records l after ++ spelling event ∷ []) layout-same written.events ∙ ap (λ records. records ++ spelling event ∷ []) events;
+          tables = gone.0.moved.tables ∙ ap (after_event event None) done.tables ∙ ap (λ (d : Option Job). after_event event d old.jobs.tables.desk) (sym none-decked);
+          stands = ensues.stands new.jobs gone.0.moved written.told_on (content new.store.disk) same-told written-so;
+          entries = entries-written gone.0.might written.told_on (content new.store.disk) same-told written-so;
+          committed = by-image (HasCommittedAgain layout then.office (Some event)) (ensues.same written.told_on same-told) (λ left lacks. ensues.lacking written.told_on left same-told lacks);
+          entries_left = by-image (HasEntries layout then.office) (entries-same gone.0.might written.told_on same-told) (λ left lacks. entries-lacking gone.0.might written.told_on left same-told lacks);
+        }
 
         pub unit-trusted : IsTrusted told content may_leave new
         unit-trusted = trusted-behind told content may_leave event old new then (coming gone.0.might) behind-so trusted
@@ -550,68 +478,3 @@ module _ {D : Type 0} (told : Type 0) (content : D → List ℕ) (may_leave : D 
           where
             state_as : DeskModel → ℕ → RoomyDesk
             state_as d room = record { desk = d; room = room }
-
-      -- ---- what a stop leaves meanwhile
-
-      abbrev came : List (List ℕ)
-      came = spelling event ∷ []
-
-      abbrev before : List (List ℕ)
-      before = event_records layout image
-
-      abbrev LeftBehind : List ℕ → Type 0
-      LeftBehind left = HasKept layout (size old.store.disk) before came left
-
-      committed-after : HasCommitted layout office after
-      committed-after = committed-so layout old.jobs image after desk turn run on moved done.worked unit-done image after trusted.stands.committed unit-done.keeps
-
-      -- the event before, on an image that may lack its record
-      again-kept : may_keep event None mid ≡ true → (left : List ℕ) → Opens layout (size old.store.disk) (λ records. records ≡ before ++ came) left → HasCommittedAgain layout then.office (Some event) left
-          → HasEntries layout then.office left → LeftBehind left
-      again-kept might left opens committed entries = kept-behind told content may_leave size old trusted event then (coming might) left opens committed entries
-
-      module _ (sized : size mid.store.disk ≡ size old.store.disk) where
-        head-so : (left : List ℕ) → header_of (take 512 left) (size mid.store.disk) ≡ Ok mid.store.layout → header_of (take 512 left) (size old.store.disk) ≡ Ok layout
-        head-so left head = ap (header_of (take 512 left)) (sym sized) ∙ head ∙ ap Ok layout-same
-
-        closed-so : (left : List ℕ) → ends_closed (part 512 mid.store.layout.book left) → ends_closed (part 512 layout.book left)
-        closed-so left closed = subst (λ (l : Layout). ends_closed (part 512 l.book left)) layout-same closed
-
-        records-so : (left : List ℕ) (more : List (List ℕ)) → event_records mid.store.layout left ≡ event_records mid.store.layout after ++ more → event_records layout left ≡ before ++ more
-        records-so left more same = subst (λ (l : Layout). event_records l left ≡ event_records l after ++ more) layout-same same ∙ ap (λ records. records ++ more) events
-
-        told-kept : (left : List ℕ) → may_keep event None mid ≡ true → Opens mid.store.layout (size mid.store.disk) (IsBeforeOrAfter (event_records mid.store.layout after) (spelling event)) left
-            → HasSameRecords mid.store.layout after left → LeftBehind left
-        told-kept left might opens same_records =
-            let same : HasSameRecords layout after left = subst (λ (l : Layout). HasSameRecords l after left) layout-same same_records in
-            ⊎_elim
-            (λ (was : event_records mid.store.layout left ≡ event_records mid.store.layout after).
-            kept-before told content may_leave size old trusted came left
-            (record { head = head-so left opens.head; list = subst (λ (l : Layout). event_records l left ≡ event_records l after) layout-same was ∙ events; closed = closed-so left opens.closed })
-            (committed-moves layout office after left trusted.stands.is_desk.kept same committed-after) (entries-told left same))
-            (λ (now : event_records mid.store.layout left ≡ event_records mid.store.layout after ++ came).
-            again-kept might left (record { head = head-so left opens.head; list = records-so left came now; closed = closed-so left opens.closed }) (ensues.same left same) (entries-same might left same))
-            opens.list
-
-        lacking-kept : (left : List ℕ) → IsLeftRewriting content size event mid left → LeftBehind left
-        lacking-kept left lacks =
-            again-kept lacks.might left (record { head = head-so left lacks.opens.head; list = records-so left came lacks.opens.list; closed = closed-so left lacks.opens.closed })
-            (ensues.lacking lacks.told_on left same_records lacks_most) (entries-lacking lacks.might lacks.told_on left same_records lacks_most)
-          where
-            same_records : HasSameRecords layout after lacks.told_on
-            same_records = subst (λ (l : Layout). HasSameRecords l after lacks.told_on) layout-same lacks.same
-
-            lacks_most : LacksAtMost layout (after_event event None office.tables) event lacks.told_on left
-            lacks_most =
-                subst (λ (l : Layout). LacksAtMost l (after_event event None office.tables) event lacks.told_on left) layout-same
-                (subst (λ (tables : TablesModel). LacksAtMost mid.store.layout (after_event event None tables) event lacks.told_on left) tables-mid lacks.lacks)
-
-        pub behind-kept : (left : List ℕ) → IsLeftBehind content may_leave size (Some event) mid left → LeftBehind left
-        behind-kept left by = ⊎_elim
-            (λ (told_by_then : IsLeftBy content may_leave size event None mid left). ⊎_elim
-            (λ (was : OpensSame content size mid left × may_leave mid.store.disk left). unit-kept came left (stems left was.1))
-            (λ (now : (may_keep event None mid ≡ true) × Opens mid.store.layout (size mid.store.disk) (IsBeforeOrAfter (event_records mid.store.layout after) (spelling event)) left × HasSameRecords mid.store.layout after left).
-            told-kept left now.0 now.1 now.2)
-            told_by_then)
-            (λ (lacks : IsLeftRewriting content size event mid left). lacking-kept left lacks)
-            by

@@ -1,8 +1,7 @@
 use Rattle.std.proofs.Common.{ap, sym, subst, ◌∙◌}
 use Rattle.ckr_desk_memory.specs.Rewrite.{HasRecordPlace}
-use Rattle.ckr_desk.proofs.Images.Rewrite.{differs-so, image-there, lacks-most, place-there, set-some, set-stands, syncing-left, updated-some, writing-left, written-by}
+use Rattle.ckr_desk.proofs.Images.Rewrite.{differs-so, image-there, lacking-then, lacks-most, place-there, set-some, set-stands, updated-some, writing-left, written-by}
 use Rattle.ckr_desk.specs.State.{DeskView}
-use Rattle.ckr_desk_refines.specs.Moves.{IsWritten}
 use Rattle.ckr_desk.proofs.desk.Desk.rewrite.Goals as goal
 
 pub unreachable-requires : goal.unreachable-requires
@@ -60,28 +59,6 @@ returns-in_err-write_record-clause-left g c =
     (differs-so layout c.layout-layout.ensures.sound.laid set stands w.place (place-there layout tables w.job w.taken w.writes w.place w.lengths w.image c.args.event.now w.is c.in-Some.name (λ row at. sym (c.updated.ensures row at) ∙ c.in-Some.is) c.library.result.now c.library.ensures.sets set (sym c.in-Some-get.ensures)
     (subst (λ (s : DeskView g.row.D.Denot). HasRecordPlace c.args.event.now s.jobs.tables.desk) (sym c.self.view_is) c.requires.place)) _ image same)))
 
-pub returns-in_err-sync-clause-left : goal.returns-in_err-sync-clause-left
-returns-in_err-sync-clause-left g c =
-    let d = g.D.Disk in
-    let laws = g.met.D.Disk g.world.𝓛 g.world.𝓜 g.world.𝓡 ((λ s x. x), (λ x. x), (λ x. x), λ x. x) in
-    let w = c.in-Rewritten in
-    let layout = c.self.inside.store.layout in
-    let tables = c.self.inside.jobs.tables.desk in
-    let set = c.in-Some-get.set.now in
-    let stands = set-stands layout c.library.result.now tables.sets c.in-Some.name set c.library.ensures.sets (sym c.in-Some-get.ensures) c.self.invariant.are.laid.stand in
-    let is_open = ap (λ s. s.store.fault) c.self.view_is ∙ c.requires.is_open in
-    rw (← c.self.view_is)
-    (λ only.
-    syncing-left d.content d.may_leave d.moment d.left_since d.size c.args.event.now (record { store = c.self.inside.store; jobs = c.self.inside.jobs; machine_room = c.self.inside.machine_room }) only c.write_record.new.self.disk c.sync.new.self.disk
-    (writing-left d.content d.may_leave d.moment d.left_since d.size c.args.event.now (record { store = c.self.inside.store; jobs = c.self.inside.jobs; machine_room = c.self.inside.machine_room }) only c.write_record.new.self.disk _ _
-    (c.write_record.ensures.any_moment is_open) c.write_record.ensures.changes.since
-    (λ image same.
-    lacks-most layout tables w.job w.taken w.writes w.place w.lengths w.image c.args.event.now w.is c.in-Some.name (λ row at. sym (c.updated.ensures row at) ∙ c.in-Some.is)
-    c.library.result.now c.library.ensures.sets set (sym c.in-Some-get.ensures) _ image
-    (differs-so layout c.layout-layout.ensures.sound.laid set stands w.place (place-there layout tables w.job w.taken w.writes w.place w.lengths w.image c.args.event.now w.is c.in-Some.name (λ row at. sym (c.updated.ensures row at) ∙ c.in-Some.is) c.library.result.now c.library.ensures.sets set (sym c.in-Some-get.ensures)
-    (subst (λ (s : DeskView g.row.D.Denot). HasRecordPlace c.args.event.now s.jobs.tables.desk) (sym c.self.view_is) c.requires.place)) _ image same)))
-    (laws.counts_now c.write_record.new.self.disk) c.sync.ensures.only_reads.since)
-
 pub returns-clause-written : goal.returns-clause-written
 returns-clause-written g c =
     let d = g.D.Disk in
@@ -92,12 +69,30 @@ returns-clause-written g c =
     rw (← c.self.view_is)
     (λ told.
     written-by layout tables w.job w.taken w.writes w.place w.lengths w.image c.args.event.now w.is c.in-Some.name (λ row at. sym (c.updated.ensures row at) ∙ c.in-Some.is)
-    c.library.result.now c.library.ensures.sets set (sym c.in-Some-get.ensures) (d.content c.self.inside.store.disk) (d.content c.sync.new.self.disk)
-    (subst (λ bytes. IsWritten layout set w.place w.image (d.content c.self.inside.store.disk) bytes) (sym c.sync.ensures.only_reads.same)
-    (record { written = c.in_ok-write_record.ensures.written told; others = c.write_record.ensures.others told })))
+    c.library.result.now c.library.ensures.sets set (sym c.in-Some-get.ensures) (d.content c.self.inside.store.disk) (d.content c.write_record.new.self.disk)
+    (record { written = c.in_ok-write_record.ensures.written told; others = c.write_record.ensures.others told }))
 
 pub returns-clause-left : goal.returns-clause-left
 returns-clause-left g c =
+    let d = g.D.Disk in
+    let w = c.in-Rewritten in
+    let layout = c.self.inside.store.layout in
+    let tables = c.self.inside.jobs.tables.desk in
+    let set = c.in-Some-get.set.now in
+    let stands = set-stands layout c.library.result.now tables.sets c.in-Some.name set c.library.ensures.sets (sym c.in-Some-get.ensures) c.self.invariant.are.laid.stand in
+    let is_open = ap (λ s. s.store.fault) c.self.view_is ∙ c.requires.is_open in
+    rw (← c.self.view_is)
+    (λ only.
+    writing-left d.content d.may_leave d.moment d.left_since d.size c.args.event.now (record { store = c.self.inside.store; jobs = c.self.inside.jobs; machine_room = c.self.inside.machine_room }) only c.write_record.new.self.disk _ _
+    (c.write_record.ensures.any_moment is_open) c.write_record.ensures.changes.since
+    (λ image same.
+    lacks-most layout tables w.job w.taken w.writes w.place w.lengths w.image c.args.event.now w.is c.in-Some.name (λ row at. sym (c.updated.ensures row at) ∙ c.in-Some.is)
+    c.library.result.now c.library.ensures.sets set (sym c.in-Some-get.ensures) _ image
+    (differs-so layout c.layout-layout.ensures.sound.laid set stands w.place (place-there layout tables w.job w.taken w.writes w.place w.lengths w.image c.args.event.now w.is c.in-Some.name (λ row at. sym (c.updated.ensures row at) ∙ c.in-Some.is) c.library.result.now c.library.ensures.sets set (sym c.in-Some-get.ensures)
+    (subst (λ (s : DeskView g.row.D.Denot). HasRecordPlace c.args.event.now s.jobs.tables.desk) (sym c.self.view_is) c.requires.place)) _ image same)))
+
+pub returns-clause-pending : goal.returns-clause-pending
+returns-clause-pending g c =
     let d = g.D.Disk in
     let laws = g.met.D.Disk g.world.𝓛 g.world.𝓜 g.world.𝓡 ((λ s x. x), (λ x. x), (λ x. x), λ x. x) in
     let w = c.in-Rewritten in
@@ -108,7 +103,7 @@ returns-clause-left g c =
     let is_open = ap (λ s. s.store.fault) c.self.view_is ∙ c.requires.is_open in
     rw (← c.self.view_is)
     (λ only.
-    syncing-left d.content d.may_leave d.moment d.left_since d.size c.args.event.now (record { store = c.self.inside.store; jobs = c.self.inside.jobs; machine_room = c.self.inside.machine_room }) only c.write_record.new.self.disk c.sync.new.self.disk
+    lacking-then d.content d.may_leave d.moment d.left_since d.size c.args.event.now (record { store = c.self.inside.store; jobs = c.self.inside.jobs; machine_room = c.self.inside.machine_room }) only c.write_record.new.self.disk
     (writing-left d.content d.may_leave d.moment d.left_since d.size c.args.event.now (record { store = c.self.inside.store; jobs = c.self.inside.jobs; machine_room = c.self.inside.machine_room }) only c.write_record.new.self.disk _ _
     (c.write_record.ensures.any_moment is_open) c.write_record.ensures.changes.since
     (λ image same.
@@ -116,4 +111,4 @@ returns-clause-left g c =
     c.library.result.now c.library.ensures.sets set (sym c.in-Some-get.ensures) _ image
     (differs-so layout c.layout-layout.ensures.sound.laid set stands w.place (place-there layout tables w.job w.taken w.writes w.place w.lengths w.image c.args.event.now w.is c.in-Some.name (λ row at. sym (c.updated.ensures row at) ∙ c.in-Some.is) c.library.result.now c.library.ensures.sets set (sym c.in-Some-get.ensures)
     (subst (λ (s : DeskView g.row.D.Denot). HasRecordPlace c.args.event.now s.jobs.tables.desk) (sym c.self.view_is) c.requires.place)) _ image same)))
-    (laws.counts_now c.write_record.new.self.disk) c.sync.ensures.only_reads.since)
+    (laws.counts_now c.write_record.new.self.disk))

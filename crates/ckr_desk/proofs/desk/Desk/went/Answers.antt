@@ -92,9 +92,9 @@ returns-clause-turned g c turn answer p =
     record {
       reply = done-reply d.told d.content d.may_leave d.moment d.left_since d.size now p.trusted turn c.args.run p.planned answer mid plan done events shape stems;
       fits = done-fits d.told d.content d.may_leave d.moment d.left_since d.size now p.trusted turn c.args.run p.planned answer mid plan done events shape stems mid refl;
-      after = done-after d.told d.content d.may_leave d.moment d.left_since d.size now p.trusted turn c.args.run p.planned answer mid plan done events shape stems mid refl c.done_unit.ensures.layout tt;
+      after = done-after d.told d.content d.may_leave d.moment d.left_since d.size now p.trusted turn c.args.run p.planned answer mid plan done events shape stems mid refl c.done_unit.ensures.layout;
       events = done-told d.told d.content d.may_leave d.moment d.left_since d.size now p.trusted turn c.args.run p.planned answer mid plan done events shape stems mid refl;
-      trusted = done-trusted d.told d.content d.may_leave d.moment d.left_since d.size now p.trusted turn c.args.run p.planned answer mid plan done events shape stems mid refl c.done_unit.ensures.layout tt;
+      trusted = done-trusted d.told d.content d.may_leave d.moment d.left_since d.size now p.trusted turn c.args.run p.planned answer mid plan done events shape stems mid refl c.done_unit.ensures.layout;
       cause = tt;
       takes = tt;
       kept = unit-keeps d.told d.content d.may_leave d.moment d.left_since d.size now p.trusted turn c.args.run p.planned answer (spelled (event_of_turn (state_of d.content now) turn answer)) mid c.done_unit.ensures.left;

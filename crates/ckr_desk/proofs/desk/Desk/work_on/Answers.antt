@@ -89,9 +89,9 @@ returns-in-Ok-clause-turned g c turn answer p ahead =
     record {
       reply = c.in-Ok.ensures.reply ∙ done-reply d.told d.content d.may_leave d.moment d.left_since d.size now p.trusted turn c.args.run p.planned answer mid plan done events shape stems;
       fits = done-fits d.told d.content d.may_leave d.moment d.left_since d.size now p.trusted turn c.args.run p.planned answer mid plan done events shape stems new c.in-Ok.ensures.gone;
-      after = done-after d.told d.content d.may_leave d.moment d.left_since d.size now p.trusted turn c.args.run p.planned answer mid plan done events shape stems new c.in-Ok.ensures.gone layout c.in-Ok.ensures.settled;
+      after = done-after d.told d.content d.may_leave d.moment d.left_since d.size now p.trusted turn c.args.run p.planned answer mid plan done events shape stems new c.in-Ok.ensures.gone layout;
       events = done-told d.told d.content d.may_leave d.moment d.left_since d.size now p.trusted turn c.args.run p.planned answer mid plan done events shape stems new c.in-Ok.ensures.gone;
-      trusted = done-trusted d.told d.content d.may_leave d.moment d.left_since d.size now p.trusted turn c.args.run p.planned answer mid plan done events shape stems new c.in-Ok.ensures.gone layout c.in-Ok.ensures.settled;
+      trusted = done-trusted d.told d.content d.may_leave d.moment d.left_since d.size now p.trusted turn c.args.run p.planned answer mid plan done events shape stems new c.in-Ok.ensures.gone layout;
       cause = tt;
       takes = tt;
       kept = done-kept d.told d.content d.may_leave d.moment d.left_since d.size now p.trusted turn c.args.run p.planned answer mid plan done events shape stems c.done_unit.ensures.size new c.done_unit.ensures.left (c.go_on.ensures.left p.trusted.tells);
