@@ -1,23 +1,19 @@
 -- An event that is read again goes on as it did.
-use Rattle.std.proofs.Common.{◌≡◌, ℕ, Bool, true, false, cond, nat_le, List, length, refl, ap, sym, subst, Option, None, Some, Result, Ok, Err}
+use Rattle.std.proofs.Common.{◌≡◌, ℕ, true, false, cond, nat_le, List, refl, ap, sym, subst, Option, None, Some}
 use Rattle.std.specs.List.{AllByRecursion}
-use Rattle.std.proofs.lemmas.Option.{same_Some}
 use Rattle.ckr_base.proofs.Bools.{and-first, and-second}
 use Rattle.ckr_base.proofs.Numbers.{nat_le-true}
-use Rattle.ckr_base.proofs.Options.{some-not-none}
 use Rattle.ckr_events.specs.declared.event.Event.{Event}
 use Rattle.ckr_events.specs.declared.event.Event.TheVariants.{Submitted, Held}
 use Rattle.ckr_points_follows.specs.RewriteCounts.{may_count}
 use Rattle.ckr_points_follows.proofs.RewriteCounts.{counted-may}
 use Rattle.ckr_jcl.specs.declared.deck.Job.{Job}
-use Rattle.ckr_jcl_decks.specs.Parts.Fault.{Fault}
-use Rattle.ckr_jcl_decks.specs.Deck.{stored_deck}
 use Rattle.ckr_volumes.specs.declared.layout.Layout.{Layout}
 use Rattle.ckr_points.specs.Follows.{follows}
 use Rattle.ckr_points.specs.Restart.{after_event}
 use Rattle.ckr_points.specs.Rows.{TablesModel}
 use Rattle.ckr_points.specs.Soundness.{AreLaidOut}
-use Rattle.ckr_desk_turn.specs.Model.Cards.{job_in, kept_deck, stored_of_kept}
+use Rattle.ckr_desk_turn.specs.Model.Cards.{kept_deck, stored_of_kept}
 use Rattle.ckr_points_tables.specs.Invariant.{IsAnySubmittable, MayCount, MaySubmit}
 use Rattle.ckr_desk_turn.specs.Queue.{AreNumbered}
 use Rattle.ckr_desk_memory.specs.Invariant.{AreJobs, IsAcceptedDeck, IsAcceptedRow, IsAnyAccepted, IsPlacedRow, IsRunnable}
