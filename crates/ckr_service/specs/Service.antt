@@ -4,7 +4,6 @@ use Rattle.std.specs.List.{flat_map, list_any}
 use Rattle.std.specs.Io.KnownBytes.{Appends}
 use Rattle.ckr_outside.specs.Faults.{Rose}
 use Rattle.ckr_outside.specs.Front.{AppendsFront}
-use Rattle.ckr_desk.specs.Soundness.{state_of}
 use Rattle.ckr_desk.specs.Attendance.{attended}
 use Rattle.ckr_desk.specs.State.{DeskView, disk_of, layout_of}
 use Rattle.ckr_desk.specs.Model.OpenImages.{event_records}

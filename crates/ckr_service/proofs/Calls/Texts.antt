@@ -1,6 +1,5 @@
 -- The text of a call, and what is written of it.
 use Rattle.std.proofs.Common.{◌≡◌, ◌≤◌, ℕ, List, [], ◌++◌, Option, refl, sym, ap, subst, ◌∙◌, append-nil}
-use Rattle.std.specs.Io.KnownBytes.{Appends}
 use Rattle.ckr_outside.specs.Front.{AppendsFront}
 use Rattle.ckr_cards.specs.Session.{Handed}
 use Rattle.ckr_service.specs.Staff.{StaffedDesk}
