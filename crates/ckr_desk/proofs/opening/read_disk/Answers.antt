@@ -6,7 +6,7 @@ use Rattle.ckr_desk.specs.Entries.{ArePointsRead}
 use Rattle.ckr_desk.specs.Soundness.{events_in, last_on}
 use Rattle.ckr_desk.proofs.Openings.Answers.{found_behind, book_cause_behind, rose_before}
 use Rattle.ckr_desk.proofs.Openings.Replay.{handed_on}
-use Rattle.ckr_desk.proofs.Openings.Syncs.{reads-behind}
+use Rattle.ckr_desk.proofs.Openings.Syncs.{reads-behind, reads-on}
 use Rattle.ckr_desk.proofs.opening.read_disk.Goals as goal
 
 pub returns-clause-found : goal.returns-clause-found
@@ -41,3 +41,10 @@ returns-clause-synced g c =
     let d = g.D.Disk in
     reads-behind d.content d.may_leave d.moment d.left_since c.args.disk.now c.sync.new.self c.layout_of.new.disk c.read_jobs.new.disk
     c.in_ok-sync.ensures.only_reads c.in_ok-sync.ensures.durable c.in_ok-layout.ensures.only_reads c.in_ok-jobs.ensures.only_reads
+
+pub returns-in_err-event_bytes-clause-only_reads : goal.returns-in_err-event_bytes-clause-only_reads
+returns-in_err-event_bytes-clause-only_reads g c =
+    let d = g.D.Disk in
+    reads-on d.content d.may_leave d.moment d.left_since c.args.disk.now c.layout_of.new.disk c.read_jobs.new.disk
+    (reads-on d.content d.may_leave d.moment d.left_since c.args.disk.now c.sync.new.self c.layout_of.new.disk c.in_ok-sync.ensures.only_reads c.in_ok-layout.ensures.only_reads)
+    c.in_ok-jobs.ensures.only_reads
