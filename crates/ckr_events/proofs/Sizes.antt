@@ -279,7 +279,7 @@ submitted-has bytes event rest e =
     let count : length a.0.1 ≤ length c.0.1 + 4 = number-takes w32 a.0.1 c.0.0 c.0.1 c.1 in
     let some : length c.0.1 ≡ length b.0.1 + length b.0.0 = omega (arith, long.0, long.1) in
     subst (λ (p : Event × List ℕ). length bytes + 1 ≤ length p.1 + most_bytes p.0) (ok_is (Submitted made.0.0.0 made.0.0.1, made.0.1) (event, rest) made.2)
-        (omega (arith, cards, behind, front, count, some))
+    (omega (arith, cards, behind, front, count, some))
 
 fields-has : (kind left : ℕ) (bytes : List ℕ) → Has (length bytes) (fields_at kind left bytes)
 unfolding fields_at selected_at denied_at started_at rewritten_at checkpointed_at cancelled_at step_ended_at restarted_at held_at released_at ended_at purged_at
@@ -287,24 +287,24 @@ fields-has kind left bytes =
     let size = length bytes in
     if-has size (kind == 1) _ _ (submitted-has bytes)
     (if-has size (kind == 2) _ _ (few-has 27 (λ x. Selected x.0 x.1.0 x.1.1.0 x.1.1.1.0 x.1.1.1.1) selected.read bytes (λ x. omega arith)
-        (both-takes 4 23 four_bytes.read _ four-takes (λ _. both-takes 1 22 byte_at _ byte-takes (λ _. both-takes 4 18 four_bytes.read _ four-takes (λ _. both-takes 1 17 byte_at _ byte-takes (λ _. optional-takes 16 _ (short-takes 16 is_check_id)))))))
+    (both-takes 4 23 four_bytes.read _ four-takes (λ _. both-takes 1 22 byte_at _ byte-takes (λ _. both-takes 4 18 four_bytes.read _ four-takes (λ _. both-takes 1 17 byte_at _ byte-takes (λ _. optional-takes 16 _ (short-takes 16 is_check_id)))))))
     (if-has size (kind == 3) _ _ (few-has 50 (λ x. Denied x.0 x.1.0 x.1.1) denied.read bytes (λ x. omega arith)
-        (both-takes 4 46 four_bytes.read _ four-takes (λ _. both-takes 1 45 (judged (between 17 26) byte).read _ (judged-takes (between 17 26) 1 byte_at byte-takes) (λ _. optional-takes 44 _ (short-takes 44 is_ds_name)))))
+    (both-takes 4 46 four_bytes.read _ four-takes (λ _. both-takes 1 45 (judged (between 17 26) byte).read _ (judged-takes (between 17 26) 1 byte_at byte-takes) (λ _. optional-takes 44 _ (short-takes 44 is_ds_name)))))
     (if-has size (kind == 4) _ _ (few-has 3446 (λ x. Started x.0 x.1.0 x.1.1) started.read bytes (λ x. omega arith)
-        (both-takes 4 3442 four_bytes.read _ four-takes (λ _. both-takes 1 3441 from_one.read _ from_one-takes (λ _. made_list-takes))))
+    (both-takes 4 3442 four_bytes.read _ four-takes (λ _. both-takes 1 3441 from_one.read _ from_one-takes (λ _. made_list-takes))))
     (if-has size (kind == 5) _ _ (few-has 339 (λ x. Rewritten x.0 x.1.0 x.1.1.0 x.1.1.1.0 x.1.1.1.1.0 x.1.1.1.1.1) rewritten.read bytes (λ x. omega arith)
-        (both-takes 4 335 four_bytes.read _ four-takes (λ _. both-takes 4 331 four_bytes.read _ four-takes (λ _. both-takes 4 327 four_bytes.read _ four-takes (λ _. both-takes 65 262 lengths_at _ lengths-take
-        (λ _. both-takes 4 258 four_bytes.read _ four-takes (λ _. record-takes)))))))
+    (both-takes 4 335 four_bytes.read _ four-takes (λ _. both-takes 4 331 four_bytes.read _ four-takes (λ _. both-takes 4 327 four_bytes.read _ four-takes (λ _. both-takes 65 262 lengths_at _ lengths-take
+    (λ _. both-takes 4 258 four_bytes.read _ four-takes (λ _. record-takes)))))))
     (if-has size (kind == 6) _ _ (few-has 102 (λ x. Checkpointed x.0 x.1.0 x.1.1.0 x.1.1.1.0 x.1.1.1.1.0 x.1.1.1.1.1.0 x.1.1.1.1.1.1) checkpointed.read bytes (λ x. omega arith)
-        (both-takes 4 98 four_bytes.read _ four-takes (λ _. both-takes 17 81 check_id.read _ (short-takes 16 is_check_id) (λ _. both-takes 4 77 four_bytes.read _ four-takes (λ _. both-takes 4 73 four_bytes.read _ four-takes
-        (λ _. both-takes 65 8 lengths_at _ lengths-take (λ _. both-takes 4 4 four_bytes.read _ four-takes (λ _. four-takes))))))))
+    (both-takes 4 98 four_bytes.read _ four-takes (λ _. both-takes 17 81 check_id.read _ (short-takes 16 is_check_id) (λ _. both-takes 4 77 four_bytes.read _ four-takes (λ _. both-takes 4 73 four_bytes.read _ four-takes
+    (λ _. both-takes 65 8 lengths_at _ lengths-take (λ _. both-takes 4 4 four_bytes.read _ four-takes (λ _. four-takes))))))))
     (if-has size (kind == 7) _ _ (few-has 4 (λ x. Cancelled x) job.read bytes (λ x. omega arith) four-takes)
     (if-has size (kind == 8) _ _ (few-has 76 (λ x. StepEnded x.0 x.1.0 x.1.1.0 x.1.1.1.0 x.1.1.1.1) step_ended.read bytes (λ x. omega arith)
-        (both-takes 4 72 four_bytes.read _ four-takes (λ _. both-takes 1 71 from_one.read _ from_one-takes (λ _. both-takes 2 69 two_bytes.read _ (number-takes w16) (λ _. both-takes 4 65 four_bytes.read _ four-takes (λ _. lengths-take))))))
+    (both-takes 4 72 four_bytes.read _ four-takes (λ _. both-takes 1 71 from_one.read _ from_one-takes (λ _. both-takes 2 69 two_bytes.read _ (number-takes w16) (λ _. both-takes 4 65 four_bytes.read _ four-takes (λ _. lengths-take))))))
     (if-has size (kind == 9) _ _ (few-has 9 (λ x. Restarted x.0 x.1.0 x.1.1.0 x.1.1.1) restarted.read bytes (λ x. omega arith)
-        (both-takes 4 5 four_bytes.read _ four-takes (λ _. both-takes 1 4 byte_at _ byte-takes (λ _. both-takes 3 1 code_at _ code-takes (λ _. flag-takes)))))
+    (both-takes 4 5 four_bytes.read _ four-takes (λ _. both-takes 1 4 byte_at _ byte-takes (λ _. both-takes 3 1 code_at _ code-takes (λ _. flag-takes)))))
     (if-has size (kind == 10) _ _ (few-has 76 (λ x. Held x.0 x.1.0 x.1.1.0 x.1.1.1) held.read bytes (λ x. omega arith)
-        (both-takes 4 72 four_bytes.read _ four-takes (λ _. both-takes 3 69 code_at _ code-takes (λ _. both-takes 4 65 four_bytes.read _ four-takes (λ _. lengths-take)))))
+    (both-takes 4 72 four_bytes.read _ four-takes (λ _. both-takes 3 69 code_at _ code-takes (λ _. both-takes 4 65 four_bytes.read _ four-takes (λ _. lengths-take)))))
     (if-has size (kind == 11) _ _ (few-has 4 (λ x. Released x) job.read bytes (λ x. omega arith) four-takes)
     (if-has size (kind == 12) _ _ (few-has 78 (λ x. Ended x.0 x.1) ended.read bytes (λ x. omega arith) (both-takes 4 74 four_bytes.read _ four-takes (λ _. ending-takes)))
     (if-has size (kind == 13) _ _ (few-has 4 (λ x. Purged x) job.read bytes (λ x. omega arith) four-takes) (none-has size left)))))))))))))

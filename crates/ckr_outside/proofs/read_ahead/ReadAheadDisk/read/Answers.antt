@@ -13,6 +13,6 @@ invariant_of-self-2 g c =
     let fits : c.args.at + c.room-room.result ≤ g.D.Disk.size c.read-2.new.self = grind (arith, common_steps) in
     let asked : length c.deref_mut.result.now ≡ c.room-room.result = grind (arith, common_steps) in
     let read : g.D.Disk.told → c.read-2.new.buf ≡ part c.args.at c.room-room.result (g.D.Disk.content c.read-2.new.self) =
-        λ is_told. c.in_ok-read.ensures.read is_told ∙ ap (λ (k : ℕ). part c.args.at k (g.D.Disk.content c.self.inside.disk)) asked ∙ ap (λ (l : List ℕ). part c.args.at c.room-room.result l) (sym c.in_ok-read.ensures.only_reads.same) in
+    λ is_told. c.in_ok-read.ensures.read is_told ∙ ap (λ (k : ℕ). part c.args.at k (g.D.Disk.content c.self.inside.disk)) asked ∙ ap (λ (l : List ℕ). part c.args.at c.room-room.result l) (sym c.in_ok-read.ensures.only_reads.same) in
     subst (λ bytes. IsBlockOn g.D.Disk.told (g.D.Disk.content c.read-2.new.self) (g.D.Disk.size c.read-2.new.self) c.begin.new.self.base c.begin.new.self.from (c.args.at + c.room-room.result) bytes) (sym (take_at c.read-2.new.buf _ _ (sym whole)))
-        (rw c.begin.ensures (block_read _ _ _ _ _ _ long fits read))
+    (rw c.begin.ensures (block_read _ _ _ _ _ _ long fits read))

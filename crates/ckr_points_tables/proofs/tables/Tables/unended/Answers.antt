@@ -12,9 +12,11 @@ lines_behind-requires c = omega (arith, ended-length c.self.inside.ended c.self.
 
 pub returns-clause-ended : goal.returns-clause-ended
 returns-clause-ended c =
-    let rows = lines-rows 1 c.self.inside.lines.items c.self.inside.tables.items c.self.invariant.kept.runs ∙ ap (λ v. map line_of v.desk.runs) c.self.view_is in
-    (c.self.inside.ended, subst (AreEnded c.self.inside.ended) rows c.self.invariant.ended,
-    c.lines_behind.ensures ∙ ap (drop c.self.inside.ended) (c.as_slice.ensures.value ∙ rows))
+    let rows = lines-rows 1 c.self.inside.lines.items c.self.inside.tables.items c.self.invariant.kept.runs ∙ ap (λ v. map line_of v.desk.runs) c.self.view_is in (
+      c.self.inside.ended,
+      subst (AreEnded c.self.inside.ended) rows c.self.invariant.ended,
+      c.lines_behind.ensures ∙ ap (drop c.self.inside.ended) (c.as_slice.ensures.value ∙ rows),
+    )
 
 pub returns-clause-tests : goal.returns-clause-tests
 returns-clause-tests c test passes =
