@@ -1,6 +1,7 @@
 -- Each run of the tables is of a deck that was accepted, behind each event that follows.
 use Rattle.std.proofs.Common.{◌≡◌, ℕ, suc, false, List, [], ◌∷◌, map, refl, ap, sym, ◌∙◌, Option, None, Some, Ok, true}
 use Rattle.std.specs.List.{AllByRecursion}
+use Rattle.ckr_points_invariant.specs.EarlierRuns.{MayContinue}
 use Rattle.ckr_base.proofs.Options.{some-not-none}
 use Rattle.ckr_base.proofs.Sequences.{each-append}
 use Rattle.ckr_events.specs.declared.event.Event.{Event}
@@ -11,7 +12,6 @@ use Rattle.ckr_points.specs.Follows.{follows}
 use Rattle.ckr_points.specs.Restart.{after_event, spliced}
 use Rattle.ckr_points.specs.Rows.{RunRow, TablesModel}
 use Rattle.ckr_points.specs.Tables.{queued_run}
-use Rattle.ckr_points_invariant.proofs.Continuations.Follows.{MayContinue}
 use Rattle.ckr_points_tables.specs.Invariant.{is_submission}
 use Rattle.ckr_volumes.specs.declared.layout.Layout.{Layout}
 use Rattle.ckr_desk_turn.proofs.AdmittedSteps.{spliced-steps}

@@ -7,7 +7,8 @@ use Rattle.ckr_library.specs.NameMaps.{Name}
 use Rattle.ckr_points.specs.Follows.{follows}
 use Rattle.ckr_points.specs.Restart.{after_entry_continued, after_event, after_start_continued, continued_row, kept_at, syschk_name}
 use Rattle.ckr_points.specs.Rows.{KeptEntry, TablesModel}
-use Rattle.ckr_points_invariant.proofs.Continuations.Follows.{IsEntryOf, MayContinue, after-selected, may-continue}
+use Rattle.ckr_points_invariant.specs.EarlierRuns.{IsEntryOf, MayContinue}
+use Rattle.ckr_points_invariant.proofs.Continuations.Follows.{after-selected, may-continue}
 use Rattle.ckr_volumes.specs.declared.layout.Layout.{Layout}
 
 module _ (layout : Layout) (tables : TablesModel) (job initiator before step : ℕ) (deck : Option Job) (Q : TablesModel → Type 0) where

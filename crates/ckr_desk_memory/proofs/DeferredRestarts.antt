@@ -3,6 +3,7 @@ use Rattle.std.proofs.Common.{◌≡◌, ◌==◌, ◌≤◌, ◌<◌, ℕ, suc,
 use Rattle.std.specs.List.{AllByRecursion, last_or}
 use Rattle.std.specs.Option.{is_none, is_some, option_eq, option_map_or}
 use Rattle.std.proofs.lemmas.Bool.{and_from, false≢true}
+use Rattle.ckr_points_invariant.specs.EarlierRuns.{wanted_by}
 use Rattle.ckr_base.proofs.Bools.{and-first, and-second}
 use Rattle.ckr_base.proofs.Numbers.{equal-itself}
 use Rattle.ckr_base.proofs.Options.{is_some-true, some-not-none, some-one}
@@ -23,7 +24,6 @@ use Rattle.ckr_points.specs.RuleCases.{Wanted, deferred_case, earlier_run, is_of
 use Rattle.ckr_points.specs.Rows.{KeptEntry, RunRow, TableSet, TablesModel, run_of}
 use Rattle.ckr_points.specs.Soundness.{serials}
 use Rattle.ckr_points.specs.declared.run.RunState.TheVariants.{Queued}
-use Rattle.ckr_points_invariant.proofs.Continuations.Follows.{wanted_by}
 use Rattle.ckr_rules.specs.RuleTables.{deferred, rule_number}
 use Rattle.ckr_rules.specs.declared.cases.DeferredCase.{DeferredCase}
 use Rattle.ckr_rules.specs.declared.cases.Verdict.{Verdict}

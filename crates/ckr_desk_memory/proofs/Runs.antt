@@ -3,6 +3,7 @@ use Rattle.std.proofs.Common.{◌≡◌, ◌+◌, ℕ, zero, suc, Bool, true, fa
 use Rattle.std.proofs.lemmas.Option.{same_Some}
 use Rattle.std.proofs.lemmas.Bool.{false≢true}
 use Rattle.std.specs.Option.{option_map_or}
+use Rattle.ckr_points_invariant.specs.EarlierRuns.{continues}
 use Rattle.ckr_base.proofs.Options.{some-not-none}
 use Rattle.std.specs.List.{AllByRecursion}
 use Rattle.ckr_events.specs.declared.event.Event.{Event}
@@ -17,7 +18,6 @@ use Rattle.ckr_points.specs.Tables.{after_commit, queued_run}
 use Rattle.ckr_points.specs.Marks.{point_at}
 use Rattle.ckr_points.specs.Restart.{after_abnormal, after_coded, after_ended, after_event, after_restarted, by_run, by_step, kept_at, place_of, step_in}
 use Rattle.ckr_points.specs.Rows.{RunRow, TablesModel, run_of, step_of_run, with_row}
-use Rattle.ckr_points_invariant.proofs.Continuations.Tests.{continues}
 use Rattle.ckr_points_tables.specs.Invariant.{is_submission}
 use Rattle.ckr_points.specs.Follows.{follows}
 use Rattle.ckr_volumes.specs.declared.layout.Layout.{Layout}

@@ -19,10 +19,10 @@ use Rattle.ckr_points.specs.Payload.{writes_in}
 use Rattle.ckr_points.specs.Office.{Leg, Office}
 use Rattle.ckr_points.specs.Restart.{place_of, step_in}
 use Rattle.ckr_points.specs.Rows.{RunRow, run_of}
-use Rattle.ckr_points_invariant.proofs.Steps.Commits.{its_start}
 use Rattle.ckr_points_invariant.proofs.Steps.Events.{led-by, on-holds, within-is}
 use Rattle.ckr_points_invariant.proofs.Steps.Walks.{start_at-of}
 use Rattle.ckr_points_invariant.specs.Invariant.{IsKept}
+use Rattle.ckr_points_invariant.specs.RunningSteps.{its_start}
 use Rattle.ckr_desk_turn.specs.declared.failed_run.FailedRun.{FailedRun}
 use Rattle.ckr_desk_turn.specs.Desk.{DeskModel, DeskStep, opened, is_running as has_run}
 use Rattle.ckr_desk_turn.specs.Plans.{is_within as is_planned}

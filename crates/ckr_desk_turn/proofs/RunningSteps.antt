@@ -30,7 +30,8 @@ use Rattle.ckr_points.specs.Rows.{RunRow, TableSet, run_of, step_of_run}
 use Rattle.ckr_rules.specs.RuleTables.{rule_number}
 use Rattle.ckr_rules.specs.declared.cases.Rule.{Rule}
 use Rattle.ckr_points_invariant.specs.Invariant.{AreAlike, Shape, counted, set_shape, table_shape}
-use Rattle.ckr_points_invariant.proofs.Steps.Commits.{alike_within, in_reach, its_start, place_so, under_way}
+use Rattle.ckr_points_invariant.specs.RunningSteps.{its_start}
+use Rattle.ckr_points_invariant.proofs.Steps.Commits.{alike_within, in_reach, place_so, under_way}
 use Rattle.ckr_points_invariant.proofs.Holders.Places.{outputs-among}
 use Rattle.ckr_desk_turn.specs.Codes.{CodePlaceModel, kept_reached, reached_by, running_reached, verdict_for}
 use Rattle.ckr_desk_turn.specs.Desk.{DeskModel, DeskStep, jobs_of, progress_unless, seen, seen_from, seen_step, start_of}

@@ -32,4 +32,3 @@ pub mod OfficeBehind
 pub mod OfficesBehind
 pub mod SelectedRuns
 pub mod ReadyRuns
-pub mod Tests

@@ -10,7 +10,7 @@ use Rattle.ckr_points.specs.Restart.{Decked}
 use Rattle.ckr_points.specs.Soundness.{IsSoundOffice}
 use Rattle.ckr_points_invariant.specs.Continuations.{goes_back}
 use Rattle.ckr_points_invariant.specs.KeptEvents.{AreKept}
-use Rattle.ckr_points_invariant.proofs.Continuations.Tests.{continues}
+use Rattle.ckr_points_invariant.specs.EarlierRuns.{continues}
 use Rattle.ckr_points_invariant.proofs.Continuations.Events.{continued-kept}
 use Rattle.ckr_points_invariant.proofs.EventLaws.{no_events, sound}
 use Rattle.ckr_points_invariant.proofs.EventList.{sound-front}

@@ -29,6 +29,7 @@ use Rattle.ckr_points.specs.Follows.{are_lengths, is_checkpoint, is_in_state, is
 use Rattle.ckr_points.specs.Payload.{carries, carries_taken, commits, writes_in}
 use Rattle.ckr_points_invariant.proofs.Marks.Points.{carried-same}
 use Rattle.ckr_points_invariant.specs.Invariant.{AreStamped, IsAgreed, IsHolder, IsKept, IsKnownLeg, IsMarkedShort, IsUnderWay, IsWaiting, IsWithinStep, MarksHold, set_shape, step_now, table_shape}
+use Rattle.ckr_points_invariant.specs.RunningSteps.{IsRunning, its_start}
 use Rattle.ckr_points_library.specs.Commit.{output_names}
 use Rattle.ckr_points.specs.Marks.{made_names, point_at, present_of, carried_marks}
 use Rattle.ckr_points.specs.Office.{Leg, Office, is_holder, office_after}
@@ -37,7 +38,7 @@ use Rattle.ckr_points.specs.Rows.{KeptEntry, RunRow, StartPoint, TableSet, Table
 use Rattle.ckr_points.specs.Soundness.{AreLaidOut, marks_of_entries, marks_of_row, may_come}
 use Rattle.ckr_points_invariant.proofs.Decks.Events.{orderly-next, row-orderly, with-orderly}
 use Rattle.ckr_points_invariant.proofs.WaitingRuns.{follows-of, tested-run}
-use Rattle.ckr_points_invariant.proofs.Steps.Commits.{IsRunning, carried-of, its_start}
+use Rattle.ckr_points_invariant.proofs.Steps.Commits.{carried-of}
 use Rattle.ckr_points_invariant.proofs.Library.Extents.{laid-changed}
 use Rattle.ckr_points_invariant.proofs.Holders.JobNames.{uses-stay}
 use Rattle.ckr_points_invariant.proofs.Holders.Rows.{place-stays, run-other, run-same}

@@ -36,6 +36,7 @@ use Rattle.ckr_points_invariant.specs.Invariant.{step_now}
 use Rattle.ckr_points_invariant.specs.KeptEvents.{AreKept}
 use Rattle.ckr_points_invariant.specs.Readiness.{KeepsEntry}
 use Rattle.ckr_points_invariant.specs.WrittenEntries.{IsWrittenEntry, check_set}
+use Rattle.ckr_points_invariant.specs.RunningSteps.{IsRunning, its_start}
 use Rattle.ckr_points_invariant.proofs.Continuations.WrittenEntries.Marks.{kept-so}
 use Rattle.ckr_points_invariant.proofs.EventList.{office-behind, sound-behind}
 use Rattle.ckr_points_invariant.proofs.KeptEvents.{next-kept, prefix-kept}
@@ -44,7 +45,7 @@ use Rattle.ckr_points_invariant.proofs.Readiness.Commits.{committed-keeps, find-
 use Rattle.ckr_points_invariant.proofs.Readiness.Rows.{changed-to}
 use Rattle.ckr_points_invariant.proofs.Readiness.Runs.{kept-entry}
 use Rattle.ckr_points_invariant.proofs.Start.Event.{running-so}
-use Rattle.ckr_points_invariant.proofs.Steps.Commits.{IsRunning, carried-of, its_start}
+use Rattle.ckr_points_invariant.proofs.Steps.Commits.{carried-of}
 use Rattle.ckr_points_invariant.proofs.Steps.Events.{led-by, on-holds, step-by}
 use Rattle.ckr_points_invariant.proofs.WaitingRuns.{follows-of, tested-run}
 use Rattle.ckr_points_invariant.proofs.WrittenEntries.Checkpoints.{takes-room}

@@ -24,9 +24,18 @@ pub record IsNameOf (deck : Job) (root owner : ℕ) (name : Name) : Type 0 where
 abbrev pub HasJobName : TablesModel → ℕ → Name → Type 0
 HasJobName tables number name = (its : RunRow) × (run_of tables number ≡ Some its) × (its.deck.name ≡ name)
 
+-- the run of this number has ended
+abbrev pub has_ended : TablesModel → ℕ → Bool
+has_ended tables number = option_map_or (λ row. is_ended row.state) (run_of tables number) false
+
+-- each run has the same job name in the later tables, and has ended there where it has here
+pub record KeepsJobNames (tables later : TablesModel) : Type 0 where
+  pub named : (number : ℕ) (name : Name) → HasJobName tables number name → HasJobName later number name
+  pub ended : (number : ℕ) → has_ended tables number ≡ true → has_ended later number ≡ true
+
 -- a run's own steps, and those of runs that ended, keep their points
 abbrev pub keeps_points : TablesModel → ℕ → ℕ → Bool
-keeps_points tables number owner = owner == number || option_map_or (λ row. is_ended row.state) (run_of tables owner) false
+keeps_points tables number owner = owner == number || has_ended tables owner
 
 -- a run of the same job name, which is the run itself or has ended
 abbrev pub IsKin : TablesModel → RunRow → ℕ → Type 0

@@ -1,5 +1,7 @@
 pub mod Invariant
 pub mod JobNames
+pub mod RunningSteps
+pub mod EarlierRuns
 pub mod Continuations
 pub mod Points
 pub mod Counts

@@ -17,7 +17,8 @@ use Rattle.ckr_points.specs.Rows.{RunRow, TablesModel, step_of_run}
 use Rattle.ckr_points.specs.Soundness.{AreLaidOut}
 use Rattle.ckr_points.specs.declared.run.RunState.TheVariants.{Queued}
 use Rattle.ckr_points_invariant.specs.KeptEvents.{AreKept}
-use Rattle.ckr_points_invariant.proofs.Continuations.Follows.{MayContinue, may-continue}
+use Rattle.ckr_points_invariant.specs.EarlierRuns.{MayContinue}
+use Rattle.ckr_points_invariant.proofs.Continuations.Follows.{may-continue}
 use Rattle.ckr_rules.specs.declared.cases.Rule.{Rule}
 use Rattle.ckr_volumes.specs.declared.layout.Layout.{Layout}
 use Rattle.ckr_desk_memory.specs.EventChanges.{is_point_of}

@@ -37,8 +37,9 @@ use Rattle.ckr_desk_refines.proofs.Rewrites.Desk.{stands-then}
 use Rattle.ckr_desk_memory.proofs.Masters.{by-role}
 use Rattle.ckr_desk_refines.specs.Rewrite.{AsksToRewrite}
 use Rattle.ckr_points_invariant.proofs.Stamps.Tables.{alike_set}
-use Rattle.ckr_points_invariant.proofs.Steps.Commits.{alike_within, formed_step, in_reach, its_start}
+use Rattle.ckr_points_invariant.proofs.Steps.Commits.{alike_within, formed_step, in_reach}
 use Rattle.ckr_points_invariant.specs.Invariant.{IsKept, Shape, step_now, table_shape}
+use Rattle.ckr_points_invariant.specs.RunningSteps.{its_start}
 use Rattle.ckr_desk_refines.specs.RewriteRecord.{HasCommittedAgain, HasLast}
 use Rattle.ckr_desk_refines.specs.Moves.{DiffersAt, HasSameRecords, HaveMoved, IsWritten}
 use Rattle.ckr_desk_refines.specs.Standing.{StandsBut, StandsForDesk}

@@ -27,8 +27,9 @@ use Rattle.ckr_points.specs.Rows.{EffectPoint, KeptEntry, RunRow, StartPoint, Ta
 use Rattle.ckr_points.specs.Tables.{fresh_effect}
 use Rattle.ckr_points_library.specs.Commit.{output_names}
 use Rattle.ckr_points_invariant.specs.JobNames.{AreKin}
+use Rattle.ckr_points_invariant.specs.EarlierRuns.{IsEntryOf, MayContinue}
 use Rattle.ckr_points_invariant.proofs.Continuations.EarlierRun.{Coming, row_then, sets_then}
-use Rattle.ckr_points_invariant.proofs.Continuations.Follows.{IsEntryOf, MayContinue, after-selected, fresh-entry, may-continue}
+use Rattle.ckr_points_invariant.proofs.Continuations.Follows.{after-selected, fresh-entry, may-continue}
 use Rattle.ckr_points_invariant.proofs.Continuations.Freshness.{fresh-exists}
 use Rattle.ckr_points_invariant.proofs.Continuations.LostNames.{kept-exists}
 use Rattle.ckr_points_invariant.proofs.Continuations.ReachedNames.DeckNames.{kin-then, own-so}

@@ -23,10 +23,10 @@ use Rattle.ckr_points.specs.RuleCases.{is_ended}
 use Rattle.ckr_library.specs.Catalog.{ends_within}
 use Rattle.ckr_points.specs.Rows.{EntryPoint, KeptEntry, RunRow, TableSet, TablesModel, run_of, with_run}
 use Rattle.ckr_points_invariant.specs.Invariant.{AreOrderly}
-use Rattle.ckr_points_invariant.specs.JobNames.{AreKin, HasJobName, IsKin, IsNamedByDeck, IsNameOf, keeps_points}
+use Rattle.ckr_points_invariant.specs.JobNames.{AreKin, HasJobName, IsKin, IsNameOf, IsNamedByDeck, KeepsJobNames, keeps_points}
 use Rattle.ckr_points_invariant.proofs.Decks.Events.{row-orderly}
 use Rattle.ckr_points_invariant.proofs.Holders.DeckNames.{deck-named}
-use Rattle.ckr_points_invariant.proofs.Holders.JobNames.{KeepsJobNames, kin-stays, one-row-keeps}
+use Rattle.ckr_points_invariant.proofs.Holders.JobNames.{kin-stays, one-row-keeps}
 use Rattle.ckr_points_invariant.proofs.Holders.Rows.{holder-ended, run-other, run-same}
 use Rattle.ckr_points_invariant.proofs.WrittenEntries.Sets.{EachHas, GoesOnThrough}
 use Rattle.ckr_desk_turn.proofs.Moves.{all-filtered}

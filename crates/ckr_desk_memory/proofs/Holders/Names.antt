@@ -24,13 +24,12 @@ use Rattle.ckr_points.specs.Rows.{RunRow, TablesModel, run_of, step_of_run}
 use Rattle.ckr_points.specs.Tables.{is_updates}
 use Rattle.ckr_desk_turn.proofs.OrderlyDecks.{deck-orderly}
 use Rattle.ckr_points_invariant.specs.Invariant.{AreOrderly, Leaves, leaves_dd}
-use Rattle.ckr_points_invariant.specs.JobNames.{IsKin, IsNameOf}
+use Rattle.ckr_points_invariant.specs.JobNames.{IsKin, IsNameOf, has_ended}
 use Rattle.ckr_points_invariant.proofs.Continuations.ReachedNames.OwnSteps.{among-rest}
 use Rattle.ckr_points_invariant.proofs.Continuations.Steps.{among-behind}
 use Rattle.ckr_points_invariant.proofs.Decks.Names.{steps-formed}
 use Rattle.ckr_points_invariant.proofs.Holders.CommonNames.{holds-turned, restart-holds, without-holds}
 use Rattle.ckr_points_invariant.proofs.Holders.DeckNames.{names-owned}
-use Rattle.ckr_points_invariant.proofs.Holders.JobNames.{has_ended}
 use Rattle.ckr_points_invariant.proofs.Holders.Rows.{step-all}
 use Rattle.ckr_points_invariant.proofs.Holders.SharedSets.{shared_role}
 use Rattle.ckr_points_invariant.proofs.Holders.Uses.{names-used, none-exclusive, shared-left}

@@ -6,6 +6,7 @@ use Rattle.std.specs.Option.{is_none, is_some, option_eq, option_map, option_map
 use Rattle.std.proofs.lemmas.Bool.{and_from, false≢true}
 use Rattle.std.proofs.lemmas.Option.{same_Some}
 use Rattle.arrayvec.specs.ArrayVec.{ArrayVec}
+use Rattle.ckr_points_invariant.specs.EarlierRuns.{MayContinue}
 use Rattle.ckr_base.proofs.Bools.{and-first, and-second}
 use Rattle.ckr_base.proofs.Numbers.{equal-itself, equal-true, number-cases}
 use Rattle.ckr_base.proofs.Options.{some-one}
@@ -30,7 +31,6 @@ use Rattle.ckr_points.specs.Office.{is_holder}
 use Rattle.ckr_points.specs.Restart.{after_abnormal, after_ended, after_event, after_passed_ended, after_put_back, after_restarted, after_start_continued, back_to_start, by_step, continued_row, place_of, point_restarted, row_on, step_in}
 use Rattle.ckr_points.specs.Rows.{EffectPoint, RunRow, StartPoint, TablesModel, run_of, standing_of, step_of_run, table_ways, with_run}
 use Rattle.ckr_points.specs.Tables.{after_cancelled, after_commit, after_dispositions, after_held, after_rewritten, after_selected, after_started, after_step_ended, after_submitted, effect_rewritten, row_rewritten}
-use Rattle.ckr_points_invariant.proofs.Continuations.Follows.{MayContinue}
 use Rattle.ckr_points_invariant.proofs.WaitingRuns.{tested-run}
 use Rattle.ckr_desk_memory.proofs.Continuations.{by-start}
 use Rattle.ckr_points_tables.specs.Invariant.{is_submission}

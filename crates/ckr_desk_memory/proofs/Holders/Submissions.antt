@@ -19,10 +19,10 @@ use Rattle.ckr_points.specs.Rows.{RunRow, TablesModel, run_of}
 use Rattle.ckr_points.specs.Tables.{after_submitted, queued_run}
 use Rattle.ckr_desk_turn.proofs.AdmittedSteps.{queued-admitted}
 use Rattle.ckr_desk_turn.proofs.OrderlyDecks.{deck-orderly}
-use Rattle.ckr_points_invariant.specs.JobNames.{AreKin, IsKin}
+use Rattle.ckr_points_invariant.specs.JobNames.{AreKin, IsKin, KeepsJobNames, has_ended}
 use Rattle.ckr_points_invariant.proofs.Continuations.ReachedNames.OwnSteps.{owner-is}
 use Rattle.ckr_points_invariant.proofs.Holders.DeckNames.{deck-named, names-owned}
-use Rattle.ckr_points_invariant.proofs.Holders.JobNames.{KeepsJobNames, has_ended, kin-stays}
+use Rattle.ckr_points_invariant.proofs.Holders.JobNames.{kin-stays}
 use Rattle.ckr_points_tables.specs.Invariant.{IsAnySubmittable, is_submittable}
 use Rattle.ckr_volumes.specs.declared.layout.Layout.{Layout}
 use Rattle.ckr_desk_memory.proofs.Holders.Moves.{each-entry, own-kin}

@@ -3,6 +3,7 @@ use Rattle.std.proofs.Common.{◌≡◌, ◌≢◌, ◌+◌, ℕ, zero, suc, tru
 use Rattle.std.specs.List.{AllByRecursion}
 use Rattle.std.specs.Prelude.{Ok}
 use Rattle.std.specs.Option.{option_map_or}
+use Rattle.ckr_points_invariant.specs.EarlierRuns.{IsEntryOf, MayContinue}
 use Rattle.ckr_base.proofs.Options.{some-not-none}
 use Rattle.ckr_events.specs.declared.event.Event.TheVariants.{Selected}
 use Rattle.ckr_jcl.specs.declared.deck.Job.{Job}
@@ -17,7 +18,7 @@ use Rattle.ckr_points.specs.Soundness.{AreLaidOut}
 use Rattle.ckr_points.specs.Tables.{fresh_effect}
 use Rattle.ckr_points_library.specs.Commit.{output_names}
 use Rattle.ckr_points_invariant.proofs.Continuations.EarlierRun.{Coming, row_then}
-use Rattle.ckr_points_invariant.proofs.Continuations.Follows.{IsEntryOf, MayContinue, after-selected, may-continue}
+use Rattle.ckr_points_invariant.proofs.Continuations.Follows.{after-selected, may-continue}
 use Rattle.ckr_points_invariant.proofs.PutBack.Sets.{put_back-laid}
 use Rattle.ckr_volumes.specs.declared.layout.Layout.{Layout}
 use Rattle.ckr_desk_turn.proofs.AdmittedSteps.{spliced-here, spliced-steps}

@@ -8,7 +8,8 @@ use Rattle.ckr_meaning.specs.StepRun.{StepStart, case_at, within_at, work_at}
 use Rattle.ckr_points_library.specs.Commit.{output_names}
 use Rattle.ckr_points.specs.Payload.{length_now, rewrites_nothing}
 use Rattle.ckr_points.specs.Restart.{step_in}
-use Rattle.ckr_points_invariant.proofs.Steps.Commits.{its_start, place_so}
+use Rattle.ckr_points_invariant.specs.RunningSteps.{its_start}
+use Rattle.ckr_points_invariant.proofs.Steps.Commits.{place_so}
 use Rattle.ckr_steps.specs.Places.{ShowsWithin}
 use Rattle.ckr_steps.proofs.NextUnits.{taken_is}
 use Rattle.ckr_desk_turn.proofs.Checkpoints.States.{state-so}

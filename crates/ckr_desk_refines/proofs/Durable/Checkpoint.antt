@@ -17,8 +17,8 @@ use Rattle.ckr_points.specs.Restart.{place_of}
 use Rattle.ckr_points.specs.Rows.{KeptEntry, TableSet}
 use Rattle.ckr_points.specs.Soundness.{may_come}
 use Rattle.ckr_points_invariant.specs.Invariant.{IsKept, step_now}
+use Rattle.ckr_points_invariant.specs.RunningSteps.{IsRunning, its_start}
 use Rattle.ckr_points_invariant.proofs.RunEnd.Event.{committed_office}
-use Rattle.ckr_points_invariant.proofs.Steps.Commits.{IsRunning, its_start}
 use Rattle.ckr_volumes.specs.declared.layout.Layout.{Layout}
 use Rattle.ckr_desk_refines.specs.Commits.{HasCommitted, HasWithinRun}
 use Rattle.ckr_desk_refines.specs.Origins.{IsPartOf}

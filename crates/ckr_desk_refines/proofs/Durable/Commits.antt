@@ -18,8 +18,9 @@ use Rattle.ckr_points.specs.Office.{Leg, Office}
 use Rattle.ckr_points.specs.Restart.{place_of}
 use Rattle.ckr_points.specs.Rows.{RunRow, TableSet, cut_set}
 use Rattle.ckr_points_invariant.specs.Invariant.{IsKept, IsMarkedShort, step_now}
+use Rattle.ckr_points_invariant.specs.RunningSteps.{IsRunning, its_start}
 use Rattle.ckr_points_invariant.proofs.Decks.Events.{row-orderly, with-orderly}
-use Rattle.ckr_points_invariant.proofs.Steps.Commits.{IsRunning, found_leg, in_reach, its_start, place_so}
+use Rattle.ckr_points_invariant.proofs.Steps.Commits.{found_leg, in_reach, place_so}
 use Rattle.ckr_points_invariant.proofs.RunEnd.Event.{committed_office, kept_then, running_then}
 use Rattle.ckr_points_invariant.proofs.Marks.Changes.{row-holds}
 use Rattle.ckr_points_invariant.proofs.Holders.Places.{outputs-among}

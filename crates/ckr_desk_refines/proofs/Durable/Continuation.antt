@@ -20,7 +20,8 @@ use Rattle.ckr_points.specs.Rows.{EffectPoint, KeptEntry, RunRow, TableSet, Tabl
 use Rattle.ckr_points.specs.Tables.{fresh_effect}
 use Rattle.ckr_points.specs.Soundness.{may_come}
 use Rattle.ckr_points_invariant.specs.Invariant.{IsAgreed, IsAtPlace, IsHolder, IsKept}
-use Rattle.ckr_points_invariant.proofs.Continuations.Follows.{IsEntryOf, MayContinue, after-selected, may-continue}
+use Rattle.ckr_points_invariant.specs.EarlierRuns.{IsEntryOf, MayContinue}
+use Rattle.ckr_points_invariant.proofs.Continuations.Follows.{after-selected, may-continue}
 use Rattle.ckr_points_invariant.proofs.Continuations.Fronts.{begins-alike}
 use Rattle.ckr_points_invariant.proofs.Continuations.SysoutNames.{sysout-listed}
 use Rattle.ckr_points_invariant.proofs.Holders.Places.{outputs-among}

@@ -20,7 +20,7 @@ use Rattle.ckr_points.specs.Restart.{after_abnormal, after_ended, after_event, a
 use Rattle.ckr_points.specs.Rows.{RunRow, TableSet, TablesModel, run_of, standing_of, step_of_run}
 use Rattle.ckr_points.specs.Soundness.{may_come}
 use Rattle.ckr_points_invariant.specs.Invariant.{IsHolder, IsKept, step_now}
-use Rattle.ckr_points_invariant.proofs.Steps.Commits.{IsRunning, its_start}
+use Rattle.ckr_points_invariant.specs.RunningSteps.{IsRunning, its_start}
 use Rattle.ckr_points_invariant.proofs.RunEnd.Event.{committed_office}
 use Rattle.ckr_points_invariant.proofs.Steps.Walks.{start_at-of}
 use Rattle.ckr_volumes.specs.declared.layout.Layout.{Layout}

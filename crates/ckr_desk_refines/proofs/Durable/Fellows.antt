@@ -24,9 +24,10 @@ use Rattle.ckr_points.specs.Restart.{after_abnormal, after_ended, after_event, p
 use Rattle.ckr_points.specs.Rows.{RunRow, TableSet, run_of}
 use Rattle.ckr_points.specs.Soundness.{may_come}
 use Rattle.ckr_points_invariant.specs.Invariant.{IsAgreed, IsHolder, IsKept, step_now}
+use Rattle.ckr_points_invariant.specs.RunningSteps.{IsRunning, its_start}
 use Rattle.ckr_points_invariant.proofs.Select.Invariant.{chosen}
 use Rattle.ckr_points_invariant.proofs.WaitingRuns.{by-selected, follows-of, tested-run}
-use Rattle.ckr_points_invariant.proofs.Steps.Commits.{IsRunning, formed_step, in_reach, its_start}
+use Rattle.ckr_points_invariant.proofs.Steps.Commits.{formed_step, in_reach}
 use Rattle.ckr_points_invariant.proofs.RunEnd.Event.{committed_office, kept_then, running_then}
 use Rattle.ckr_points_invariant.proofs.Holders.SharedSets.{elsewhere}
 use Rattle.ckr_points_invariant.proofs.Rewrite.Invariant.{updated-name}

@@ -23,8 +23,9 @@ use Rattle.ckr_points.specs.Restart.{after_abnormal, after_ended, by_step, place
 use Rattle.ckr_points.specs.Rows.{RunRow, TablesModel, run_of}
 use Rattle.ckr_points.specs.Soundness.{may_come}
 use Rattle.ckr_points_invariant.specs.Invariant.{IsAgreed, step_now}
+use Rattle.ckr_points_invariant.specs.RunningSteps.{IsRunning, its_start}
 use Rattle.ckr_points_invariant.proofs.WaitingRuns.{follows-of, tested-run}
-use Rattle.ckr_points_invariant.proofs.Steps.Commits.{IsRunning, carried-of, its_start}
+use Rattle.ckr_points_invariant.proofs.Steps.Commits.{carried-of}
 use Rattle.ckr_points_invariant.proofs.Steps.Events.{led-by, on-holds, running-holds, running-within, step-by}
 use Rattle.ckr_points_invariant.proofs.Start.Event.{running-so}
 use Rattle.ckr_volumes.specs.declared.layout.Layout.{Layout}

@@ -24,7 +24,8 @@ use Rattle.ckr_points.specs.Office.{Leg, Office, passed_made}
 use Rattle.ckr_points.specs.Restart.{after_abnormal, after_passed_ended, place_of}
 use Rattle.ckr_points.specs.Rows.{RunRow, TableSet, standing_of, step_of_run, table_ways}
 use Rattle.ckr_points_invariant.specs.Invariant.{IsAgreed, IsAtPlace, IsHolder, Leaves, leaves_dd, step_now}
-use Rattle.ckr_points_invariant.proofs.Steps.Commits.{IsRunning, found_leg, its_start, now}
+use Rattle.ckr_points_invariant.specs.RunningSteps.{IsRunning, its_start}
+use Rattle.ckr_points_invariant.proofs.Steps.Commits.{found_leg, now}
 use Rattle.ckr_points_invariant.proofs.StepEnd.Invariant.{disposals_are, disposed-enters}
 use Rattle.ckr_points_invariant.proofs.Holders.Rows.{step-all}
 use Rattle.ckr_points_invariant.proofs.Holders.SharedSets.{LeavesStep, Unmade, Untouched, before_keeps, disposed_all-left, no_output, opened_all-left, placed_at-left, shared_role, step_left, unmade_all, unmade_left, untouched_all}

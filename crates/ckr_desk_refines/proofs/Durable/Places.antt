@@ -14,7 +14,7 @@ use Rattle.ckr_points.specs.Office.{Leg, Office, model_records}
 use Rattle.ckr_points.specs.Restart.{place_of}
 use Rattle.ckr_points.specs.Rows.{RunRow, TableSet}
 use Rattle.ckr_points_invariant.specs.Invariant.{AreAlike, HasBegun, IsHolder, IsKept, Shape, set_shape, table_shape}
-use Rattle.ckr_points_invariant.proofs.Steps.Commits.{its_start}
+use Rattle.ckr_points_invariant.specs.RunningSteps.{its_start}
 use Rattle.ckr_points_invariant.proofs.Holders.Moves.{standing-is}
 use Rattle.ckr_points_invariant.proofs.Stamps.Tables.{alike_set, reached-now}
 use Rattle.ckr_points_invariant.proofs.Steps.Walks.{at-within}

@@ -15,10 +15,10 @@ use Rattle.ckr_points.specs.Restart.{place_of, step_in}
 use Rattle.ckr_points.specs.Payload.{start_in_office}
 use Rattle.ckr_points.specs.Rows.{RunRow, TableSet, step_of_run}
 use Rattle.ckr_points_invariant.specs.Invariant.{AreAlike, IsAgreed, IsKept, table_shape}
-use Rattle.ckr_points_invariant.proofs.Steps.Commits.{IsRunning, alike_within, in_reach, its_start}
+use Rattle.ckr_points_invariant.specs.RunningSteps.{IsRunning, its_start, start_of}
+use Rattle.ckr_points_invariant.proofs.Steps.Commits.{alike_within, in_reach}
 use Rattle.ckr_points_invariant.proofs.Holders.SharedSets.{within_at-left}
 use Rattle.ckr_points_invariant.proofs.Stamps.Tables.{alike_set}
-use Rattle.ckr_points_invariant.proofs.Steps.Walks.{start_of}
 use Rattle.ckr_volumes.specs.declared.layout.Layout.{Layout}
 use Rattle.ckr_desk_refines.specs.SharedSets.{IsInStep, IsShared, LeavesOthers}
 use Rattle.ckr_desk_refines.proofs.Durable.OtherSets.{IsLeft, left-of, not-output, running-leaves}

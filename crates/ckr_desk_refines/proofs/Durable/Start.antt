@@ -31,6 +31,7 @@ use Rattle.ckr_points.specs.Restart.{place_of}
 use Rattle.ckr_points.specs.Rows.{RunRow, TableSet, standing_of, table_ways}
 use Rattle.ckr_points.specs.Soundness.{may_come}
 use Rattle.ckr_points_invariant.specs.Invariant.{AreAlike, IsAtPlace, HasBegun, IsHolder, IsKept, Shape, set_shape, step_now, table_shape}
+use Rattle.ckr_points_invariant.specs.RunningSteps.{start_of}
 use Rattle.ckr_points_invariant.proofs.Library.Likeness.{made_all-apart, placed-apart}
 use Rattle.ckr_points_invariant.proofs.Select.Invariant.{chosen, led_there, waits}
 use Rattle.ckr_points_invariant.proofs.WaitingRuns.{by-selected}
@@ -39,7 +40,7 @@ use Rattle.ckr_points_invariant.proofs.Holders.Moves.{standing-is}
 use Rattle.ckr_points_invariant.proofs.Stamps.Tables.{alike_set, reached-now}
 use Rattle.ckr_points_invariant.proofs.Start.Invariant as starting
 use Rattle.ckr_points_invariant.proofs.Start.Event.{StartsNow, by-start}
-use Rattle.ckr_points_invariant.proofs.Steps.Walks.{at-before, at-opened, at-within, start_of}
+use Rattle.ckr_points_invariant.proofs.Steps.Walks.{at-before, at-opened, at-within}
 use Rattle.ckr_volumes.specs.declared.layout.Layout.{Layout}
 use Rattle.ckr_volumes.specs.Records.{records_on}
 use Rattle.ckr_volumes.specs.SamePlaces.{SamePlaces, same_places}

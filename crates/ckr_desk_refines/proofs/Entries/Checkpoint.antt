@@ -30,8 +30,9 @@ use Rattle.ckr_points.specs.Rows.{KeptEntry, RunRow, TableSet, TablesModel, cut_
 use Rattle.ckr_points.specs.Soundness.{may_come}
 use Rattle.ckr_points.specs.Tables.{after_checkpointed, after_commit, committed, fresh_effect, is_checkpoints, name_with_role, with_kept_entry}
 use Rattle.ckr_points_invariant.specs.Invariant.{IsAgreed, step_now}
+use Rattle.ckr_points_invariant.specs.RunningSteps.{IsRunning}
 use Rattle.ckr_points_invariant.proofs.Start.Event.{running-so}
-use Rattle.ckr_points_invariant.proofs.Steps.Commits.{IsRunning, formed_step}
+use Rattle.ckr_points_invariant.proofs.Steps.Commits.{formed_step}
 use Rattle.ckr_points_invariant.proofs.Steps.Events.{led-by, on-holds}
 use Rattle.ckr_points_invariant.proofs.WaitingRuns.{follows-of, tested-run}
 use Rattle.ckr_points_invariant.proofs.Writes.Likeness.{committed-other}

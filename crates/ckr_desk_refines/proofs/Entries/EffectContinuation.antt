@@ -21,14 +21,16 @@ use Rattle.ckr_points.specs.Tables.{fresh_effect}
 use Rattle.ckr_points_invariant.specs.Invariant.{IsAgreed}
 use Rattle.ckr_points_invariant.specs.KeptEvents.{AreKept}
 use Rattle.ckr_points_invariant.specs.WrittenEntries.{IsWrittenEntry}
-use Rattle.ckr_points_invariant.proofs.Continuations.Follows.{IsEntryOf, MayContinue, after-selected}
+use Rattle.ckr_points_invariant.specs.EarlierRuns.{IsEntryOf, MayContinue}
+use Rattle.ckr_points_invariant.specs.RunningSteps.{start_of}
+use Rattle.ckr_points_invariant.proofs.Continuations.Follows.{after-selected}
 use Rattle.ckr_points_invariant.proofs.Continuations.Fronts.{begins-alike}
 use Rattle.ckr_points_invariant.proofs.Continuations.WrittenEntries.Marks.{kept-so}
 use Rattle.ckr_points_invariant.proofs.Holders.Places.{outputs-among}
 use Rattle.ckr_points_invariant.proofs.Holders.Rows.{run-same}
 use Rattle.ckr_points_invariant.proofs.Readiness.Runs.{kept-entry}
 use Rattle.ckr_points_invariant.proofs.Select.Holders.{leg_here}
-use Rattle.ckr_points_invariant.proofs.Steps.Walks.{start_at-of, start_of}
+use Rattle.ckr_points_invariant.proofs.Steps.Walks.{start_at-of}
 use Rattle.ckr_volumes.specs.declared.layout.Layout.{Layout}
 use Rattle.ckr_desk_refines.specs.Entries.{AreOwned, HasOwner}
 use Rattle.ckr_desk_refines.specs.EntryRefusal.{AreInEffect, HasSameCase, IsInEffect, LeavesReach}

@@ -33,10 +33,10 @@ use Rattle.ckr_points.specs.Restart.{after_abnormal, after_ended, after_event, a
 use Rattle.ckr_points.specs.Rows.{EffectPoint, EntryPoint, KeptEntry, RunRow, TableSet, TablesModel, run_of, step_of_run, with_run}
 use Rattle.ckr_points.specs.Tables.{after_submitted, after_checkpointed, after_commit, after_dispositions, after_held, after_rewritten, after_started, after_step_ended, committed, effect_rewritten, fresh_effect, is_checkpoints, is_updates, name_with_role, queued_run, row_rewritten, table_rewritten}
 use Rattle.ckr_points_invariant.specs.Invariant.{IsAgreed, IsAtPlace, step_now}
+use Rattle.ckr_points_invariant.specs.RunningSteps.{its_start}
 use Rattle.ckr_points_invariant.proofs.Holders.Places.{outputs-among}
 use Rattle.ckr_points_invariant.proofs.Holders.Rows.{holder-waits}
 use Rattle.ckr_points_invariant.proofs.Marks.Points.{present-now}
-use Rattle.ckr_points_invariant.proofs.Steps.Commits.{its_start}
 use Rattle.ckr_points_invariant.proofs.Steps.Events.{led-by, on-holds}
 use Rattle.ckr_points_invariant.proofs.Steps.Walks.{start_at-of}
 use Rattle.ckr_volumes.specs.declared.layout.Layout.{Layout}

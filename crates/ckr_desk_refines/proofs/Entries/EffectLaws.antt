@@ -12,7 +12,7 @@ use Rattle.ckr_points.specs.Rows.{TablesModel}
 use Rattle.ckr_points.specs.Soundness.{may_come}
 use Rattle.ckr_points_invariant.specs.Invariant.{IsAgreed}
 use Rattle.ckr_points_invariant.specs.KeptEvents.{AreKept}
-use Rattle.ckr_points_invariant.proofs.Continuations.Tests.{continues}
+use Rattle.ckr_points_invariant.specs.EarlierRuns.{continues}
 use Rattle.ckr_points_invariant.proofs.WaitingRuns.{follows-of}
 use Rattle.ckr_volumes.specs.declared.layout.Layout.{Layout}
 use Rattle.ckr_desk_refines.specs.Entries.{AreOwned, AreWithin, takes_checkpoint}

@@ -22,7 +22,7 @@ use Rattle.ckr_points.specs.Rows.{RunRow, TableSet, TablesModel, run_of, standin
 use Rattle.ckr_points.specs.Soundness.{may_come}
 use Rattle.ckr_points.specs.Tables.{after_commit, after_held, after_rewritten, after_started, after_step_ended, is_updates, made_tables, name_with_role, queued_run, row_rewritten, start_point}
 use Rattle.ckr_points_invariant.specs.Invariant.{IsAgreed, step_now}
-use Rattle.ckr_points_invariant.proofs.Continuations.Tests.{continues}
+use Rattle.ckr_points_invariant.specs.EarlierRuns.{continues}
 use Rattle.ckr_volumes.specs.declared.layout.Layout.{Layout}
 use Rattle.ckr_desk_refines.specs.Entries.{AreThere, AreWithin, EndWithin, KeepsNoneIfPlain, OnlyCheckSetsKeep, HasEntries, UnderEachName, jobs_of, takes_checkpoint}
 use Rattle.ckr_desk_refines.proofs.Entries.Continuation.{continued-stays, programs-continued}

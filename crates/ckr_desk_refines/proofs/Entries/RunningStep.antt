@@ -32,8 +32,9 @@ use Rattle.ckr_points.specs.Rows.{RunRow, TableSet, run_of}
 use Rattle.ckr_points.specs.Soundness.{may_come}
 use Rattle.ckr_points.specs.Tables.{after_checkpointed, committed, is_checkpoints, name_with_role, with_kept_entry}
 use Rattle.ckr_points_invariant.specs.Invariant.{IsAgreed, Shape, set_shape, step_now, table_shape}
+use Rattle.ckr_points_invariant.specs.RunningSteps.{IsRunning, its_start}
 use Rattle.ckr_points_invariant.proofs.Start.Event.{running-so}
-use Rattle.ckr_points_invariant.proofs.Steps.Commits.{IsRunning, alike_within, formed_step, in_reach, its_start, under_way}
+use Rattle.ckr_points_invariant.proofs.Steps.Commits.{alike_within, formed_step, in_reach, under_way}
 use Rattle.ckr_points_invariant.proofs.Steps.Events.{led-by, on-holds}
 use Rattle.ckr_points_invariant.proofs.WaitingRuns.{follows-of, tested-run}
 use Rattle.ckr_volumes.specs.declared.layout.Layout.{Layout}

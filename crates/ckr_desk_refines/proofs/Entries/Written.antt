@@ -20,7 +20,8 @@ use Rattle.ckr_points.specs.Restart.{place_of, step_in}
 use Rattle.ckr_points.specs.Rows.{EntryPoint, RunRow, TableSet, run_of, step_of_run}
 use Rattle.ckr_points.specs.Tables.{committed, entry_point, is_checkpoints, name_with_role}
 use Rattle.ckr_points_invariant.specs.Invariant.{IsHolder}
-use Rattle.ckr_points_invariant.proofs.Steps.Commits.{IsRunning, its_start, place_so}
+use Rattle.ckr_points_invariant.specs.RunningSteps.{IsRunning, its_start}
+use Rattle.ckr_points_invariant.proofs.Steps.Commits.{place_so}
 use Rattle.ckr_steps.specs.EntryRecords.{HasEntry}
 use Rattle.ckr_volumes.specs.declared.layout.Layout.{Layout}
 use Rattle.ckr_volumes.specs.SamePlaces.{SamePlaces}

@@ -25,7 +25,8 @@ use Rattle.ckr_points.specs.Office.{Leg, Office}
 use Rattle.ckr_points.specs.Restart.{place_of}
 use Rattle.ckr_points.specs.Rows.{RunRow, TableSet}
 use Rattle.ckr_points_invariant.specs.Invariant.{HasBegun, IsKept, Shape, set_shape, table_shape}
-use Rattle.ckr_points_invariant.proofs.Steps.Commits.{IsRunning, alike_within, found_leg, in_reach, its_start, place_so}
+use Rattle.ckr_points_invariant.specs.RunningSteps.{IsRunning, its_start}
+use Rattle.ckr_points_invariant.proofs.Steps.Commits.{alike_within, found_leg, in_reach, place_so}
 use Rattle.ckr_points_invariant.proofs.Stamps.Tables.{reached-now}
 use Rattle.ckr_points_invariant.proofs.Steps.Walks.{at-within}
 use Rattle.ckr_desk_refines.specs.Moves.{HasSameRecords}

@@ -2,6 +2,7 @@
 use Rattle.std.proofs.Common.{◌≡◌, ◌≤◌, ◌==◌, ℕ, Bool, true, false, List, [], ◌∷◌, find, length, refl, ap, sym, ◌∙◌, subst, Option, Some}
 use Rattle.std.specs.Option.{is_some}
 use Rattle.std.proofs.lemmas.Bool.{and_from, or_left, or_right}
+use Rattle.ckr_points_invariant.specs.RunningSteps.{IsRunning, its_start}
 use Rattle.ckr_base.proofs.Options.{some-one}
 use Rattle.ckr_library.specs.NameMaps.{Name, Named, entry_at, same_name}
 use Rattle.ckr_library.proofs.Named.{name-itself}
@@ -13,7 +14,6 @@ use Rattle.ckr_points.specs.Follows.{is_in_state, is_running, own_step, state_nu
 use Rattle.ckr_points.specs.Office.{Leg}
 use Rattle.ckr_points.specs.Restart.{step_in}
 use Rattle.ckr_points.specs.Rows.{KeptEntry, RunRow, TableSet, run_of, step_of_run}
-use Rattle.ckr_points_invariant.proofs.Steps.Commits.{IsRunning, its_start}
 use Rattle.ckr_steps.specs.declared.files.Files.{Files}
 use Rattle.ckr_steps.specs.declared.step_run.StepRun.{StepRun}
 use Rattle.ckr_steps.specs.Places.{HasWithin, IsPointOf, IsStepPlace}

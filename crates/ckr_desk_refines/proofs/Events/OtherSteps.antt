@@ -32,7 +32,8 @@ use Rattle.ckr_points.specs.declared.run.RunState.TheVariants.{On}
 use Rattle.ckr_points.specs.Restart.{place_of, step_in}
 use Rattle.ckr_points.specs.Rows.{RunRow, TableSet, run_of}
 use Rattle.ckr_points_invariant.specs.Invariant.{IsAgreed}
-use Rattle.ckr_points_invariant.proofs.Steps.Commits.{IsRunning, formed_step, its_start, place_so}
+use Rattle.ckr_points_invariant.specs.RunningSteps.{IsRunning, its_start}
+use Rattle.ckr_points_invariant.proofs.Steps.Commits.{formed_step, place_so}
 use Rattle.ckr_points_invariant.proofs.Steps.Walks.{at-before}
 use Rattle.ckr_desk_refines.specs.Moves.{HasSameRecords}
 use Rattle.ckr_desk_refines.specs.Standing.{AllStand, StandsForStep, differ, is_of_one, seen_without, steps_without}

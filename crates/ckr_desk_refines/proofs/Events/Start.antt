@@ -32,7 +32,8 @@ use Rattle.ckr_points.specs.Restart.{place_of}
 use Rattle.ckr_points.specs.Rows.{RunRow, TableSet, run_of, standing_of, step_of_run, table_ways}
 use Rattle.ckr_points.specs.Soundness.{may_come}
 use Rattle.ckr_points_invariant.specs.Invariant.{AreAlike, IsAgreed, Shape, set_shape, table_shape}
-use Rattle.ckr_points_invariant.proofs.Steps.Commits.{IsRunning, alike_within, formed_step, in_reach, its_start, under_way}
+use Rattle.ckr_points_invariant.specs.RunningSteps.{IsRunning, its_start}
+use Rattle.ckr_points_invariant.proofs.Steps.Commits.{alike_within, formed_step, in_reach, under_way}
 use Rattle.ckr_points_invariant.proofs.Holders.Rows.{run-same}
 use Rattle.ckr_points_invariant.proofs.Start.Event.{by-start}
 use Rattle.ckr_desk_refines.specs.Standing.{AllStand, StandsForStep}

@@ -21,7 +21,8 @@ use Rattle.ckr_points.specs.Payload.{rewrites_nothing, writes_between}
 use Rattle.ckr_points.specs.Office.{Leg, Office}
 use Rattle.ckr_points.specs.Rows.{RunRow, TableSet}
 use Rattle.ckr_points_invariant.specs.Invariant.{Shape, set_shape, table_shape}
-use Rattle.ckr_points_invariant.proofs.Steps.Commits.{IsRunning, alike_within, in_reach, its_start}
+use Rattle.ckr_points_invariant.specs.RunningSteps.{IsRunning, its_start}
+use Rattle.ckr_points_invariant.proofs.Steps.Commits.{alike_within, in_reach}
 use Rattle.ckr_points_invariant.proofs.Stamps.Tables.{alike_set}
 use Rattle.ckr_points_invariant.proofs.Writes.Likeness.{bare, written_all-bare}
 use Rattle.ckr_desk_refines.specs.Standing.{AllStand, StandsForStep}

@@ -24,8 +24,9 @@ use Rattle.ckr_points.specs.Soundness.{may_come}
 use Rattle.ckr_points.specs.Tables.{fresh_effect}
 use Rattle.ckr_points_invariant.specs.Invariant.{IsAgreed, IsHolder, IsKnownLeg}
 use Rattle.ckr_points_invariant.specs.KeptEvents.{AreKept}
+use Rattle.ckr_points_invariant.specs.EarlierRuns.{IsEntryOf, MayContinue, continues}
 use Rattle.ckr_points_invariant.proofs.Continuations.EarlierRun.{Coming, leg_from, row_then, tables_then}
-use Rattle.ckr_points_invariant.proofs.Continuations.Follows.{IsEntryOf, MayContinue, after-selected}
+use Rattle.ckr_points_invariant.proofs.Continuations.Follows.{after-selected}
 use Rattle.ckr_points_invariant.proofs.Continuations.Offices as offices
 use Rattle.ckr_points_invariant.proofs.Continuations.Selections.Earlier.{start-covers}
 use Rattle.ckr_points_invariant.proofs.Continuations.Selections.Entries.{entry-covers}
@@ -34,7 +35,6 @@ use Rattle.ckr_points_invariant.proofs.KeptEvents.{next-kept, none-kept}
 use Rattle.ckr_points_invariant.proofs.Select.Holders.{holder-of}
 use Rattle.ckr_points_invariant.proofs.Select.Invariant as select
 use Rattle.ckr_points_invariant.proofs.WaitingRuns.{by-selected}
-use Rattle.ckr_points_invariant.proofs.Continuations.Tests.{continues}
 use Rattle.ckr_desk_memory.specs.Model.Invariant.{is_submission}
 use Rattle.ckr_volumes.specs.declared.layout.Layout.{Layout}
 use Rattle.ckr_desk_memory.proofs.Runs.{Kind, kind_of, runs-stay}

@@ -28,7 +28,8 @@ use Rattle.ckr_points.specs.Tables.{committed, is_updates, name_with_role, table
 use Rattle.ckr_points.specs.Office.{Office, model_records}
 use Rattle.ckr_points.specs.Rows.{TableSet}
 use Rattle.ckr_points_invariant.specs.Invariant.{HasBegun, IsKept, Shape, step_now, table_shape}
-use Rattle.ckr_points_invariant.proofs.Steps.Commits.{alike_within, found_leg, in_reach, its_start}
+use Rattle.ckr_points_invariant.specs.RunningSteps.{its_start}
+use Rattle.ckr_points_invariant.proofs.Steps.Commits.{alike_within, found_leg, in_reach}
 use Rattle.ckr_points_invariant.proofs.Holders.Places.{outputs-among}
 use Rattle.ckr_points_invariant.proofs.Stamps.Tables.{alike_set, reached-now}
 use Rattle.ckr_points_invariant.proofs.Steps.Walks.{at-within}

@@ -32,7 +32,8 @@ use Rattle.ckr_points.specs.Office.{Leg}
 use Rattle.ckr_points.specs.Restart.{place_of, step_in}
 use Rattle.ckr_points.specs.Rows.{RunRow, TableSet, step_of_run}
 use Rattle.ckr_points_invariant.specs.Invariant.{Shape, set_shape, step_now, table_shape}
-use Rattle.ckr_points_invariant.proofs.Steps.Commits.{IsRunning, alike_within, formed_step, in_reach, its_start, place_so}
+use Rattle.ckr_points_invariant.specs.RunningSteps.{IsRunning, its_start}
+use Rattle.ckr_points_invariant.proofs.Steps.Commits.{alike_within, formed_step, in_reach, place_so}
 use Rattle.ckr_points_invariant.proofs.Stamps.Tables.{alike_set}
 use Rattle.ckr_points_invariant.proofs.Steps.Walks.{at-before}
 use Rattle.ckr_points_invariant.proofs.Writes.Likeness.{bare, written_all-bare}

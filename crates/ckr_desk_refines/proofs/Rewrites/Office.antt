@@ -20,7 +20,7 @@ use Rattle.ckr_points.specs.Office.{Office, office_after}
 use Rattle.ckr_points.specs.Restart.{by_step}
 use Rattle.ckr_points.specs.Rows.{RunRow, TableSet, cut_set, run_of, step_of_run}
 use Rattle.ckr_points_invariant.specs.Invariant.{step_now}
-use Rattle.ckr_points_invariant.proofs.Steps.Commits.{IsRunning}
+use Rattle.ckr_points_invariant.specs.RunningSteps.{IsRunning}
 use Rattle.ckr_points_invariant.proofs.Holders.Rows.{run-other, run-same}
 use Rattle.ckr_desk_turn.specs.Desk.{DeskModel, DeskStep}
 use Rattle.ckr_desk_refines.proofs.Rewrites.Legs.{IsLedStep}

@@ -23,7 +23,8 @@ use Rattle.ckr_points.specs.Payload.{writes_in}
 use Rattle.ckr_points.specs.Restart.{place_of}
 use Rattle.ckr_points.specs.Rows.{TableSet}
 use Rattle.ckr_points_invariant.specs.Invariant.{step_now}
-use Rattle.ckr_points_invariant.proofs.Steps.Commits.{in_reach, its_start}
+use Rattle.ckr_points_invariant.specs.RunningSteps.{its_start}
+use Rattle.ckr_points_invariant.proofs.Steps.Commits.{in_reach}
 use Rattle.ckr_points_invariant.proofs.Holders.SharedSets.{elsewhere}
 use Rattle.ckr_desk_refines.specs.Moves.{HasSameRecords, IsWritten}
 use Rattle.ckr_desk_refines.specs.Standing.{StandsForStep}

@@ -28,7 +28,8 @@ use Rattle.ckr_points.specs.Payload.{length_by, length_now, lengths_at, records_
 use Rattle.ckr_points.specs.Restart.{place_of}
 use Rattle.ckr_points.specs.Rows.{TableSet, run_of}
 use Rattle.ckr_points_invariant.specs.Invariant.{step_now}
-use Rattle.ckr_points_invariant.proofs.Steps.Commits.{formed_step, its_start, place_so}
+use Rattle.ckr_points_invariant.specs.RunningSteps.{its_start}
+use Rattle.ckr_points_invariant.proofs.Steps.Commits.{formed_step, place_so}
 use Rattle.ckr_points_invariant.proofs.Rewrite.Invariant.{updated-name}
 use Rattle.ckr_points_invariant.proofs.Writes.Roles.{target, target-named}
 use Rattle.ckr_desk_refines.specs.Moves.{HasSameRecords, IsWritten}

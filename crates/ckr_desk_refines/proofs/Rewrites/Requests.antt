@@ -25,7 +25,7 @@ use Rattle.ckr_points.specs.Office.{Office, office_after}
 use Rattle.ckr_points.specs.Rows.{RunRow, run_of}
 use Rattle.ckr_desk_refines.specs.Rewrite.{AsksToRewrite}
 use Rattle.ckr_points_invariant.specs.Invariant.{IsKept, step_now}
-use Rattle.ckr_points_invariant.proofs.Steps.Commits.{its_start}
+use Rattle.ckr_points_invariant.specs.RunningSteps.{its_start}
 use Rattle.ckr_desk_refines.specs.Moves.{event_in}
 use Rattle.ckr_steps.specs.declared.files.Files.{Files}
 use Rattle.ckr_steps.specs.declared.files.RecordSource.TheVariants.{InSet}

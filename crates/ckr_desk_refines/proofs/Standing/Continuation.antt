@@ -15,7 +15,7 @@ use Rattle.ckr_points.specs.Restart.{syschk_name}
 use Rattle.ckr_points.specs.Rows.{EffectPoint, RunRow, run_of}
 use Rattle.ckr_points.specs.Tables.{fresh_effect}
 use Rattle.ckr_points_invariant.specs.KeptEvents.{AreKept}
-use Rattle.ckr_points_invariant.proofs.Continuations.Follows.{MayContinue}
+use Rattle.ckr_points_invariant.specs.EarlierRuns.{MayContinue}
 use Rattle.ckr_points_invariant.proofs.KeptEvents.{next-kept}
 use Rattle.ckr_steps.specs.EntryRecords.{bytes_on}
 use Rattle.ckr_volumes.specs.declared.layout.Layout.{Layout}

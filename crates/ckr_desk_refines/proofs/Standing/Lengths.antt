@@ -19,7 +19,8 @@ use Rattle.ckr_points.specs.Office.{Office, Leg}
 use Rattle.ckr_points.specs.Restart.{step_in}
 use Rattle.ckr_points.specs.Rows.{RunRow, TableSet, step_of_run}
 use Rattle.ckr_points_invariant.specs.Invariant.{IsAgreed, Shape, set_shape, table_shape}
-use Rattle.ckr_points_invariant.proofs.Steps.Commits.{IsRunning, alike_within, in_reach, its_start, place_so}
+use Rattle.ckr_points_invariant.specs.RunningSteps.{IsRunning, its_start}
+use Rattle.ckr_points_invariant.proofs.Steps.Commits.{alike_within, in_reach, place_so}
 use Rattle.ckr_points_invariant.proofs.Holders.Places.{outputs-among}
 use Rattle.ckr_points_invariant.proofs.Stamps.Tables.{alike_set}
 use Rattle.ckr_points_invariant.proofs.Writes.Likeness.{bare, written_all-bare}

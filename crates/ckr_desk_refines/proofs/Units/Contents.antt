@@ -23,10 +23,11 @@ use Rattle.ckr_meaning.specs.LibrarySet.{AreWithinSpace, IsWithinSpace, Library,
 use Rattle.ckr_meaning.specs.StepRun.{StepStart, changed_in, made_at, output_name, within_at, work_at, written_all, written_one, written_set}
 use Rattle.ckr_points.specs.Office.{Leg}
 use Rattle.ckr_points.specs.Rows.{TableSet}
-use Rattle.ckr_points_invariant.proofs.Steps.Commits.{IsRunning, alike_within, formed_step, in_reach, its_start, place_so}
+use Rattle.ckr_points_invariant.proofs.Steps.Commits.{alike_within, formed_step, in_reach, place_so}
 use Rattle.ckr_points_invariant.proofs.Stamps.Tables.{alike_set}
 use Rattle.ckr_points_invariant.proofs.Steps.Walks.{at-before}
 use Rattle.ckr_points_invariant.specs.Invariant.{Shape, table_shape}
+use Rattle.ckr_points_invariant.specs.RunningSteps.{IsRunning, its_start}
 use Rattle.ckr_desk_turn.specs.Desk.{DeskModel, DeskStep}
 
 -- ---- no write changes what a data set is for

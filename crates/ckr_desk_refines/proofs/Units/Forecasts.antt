@@ -9,6 +9,7 @@ use Rattle.ckr_base.specs.declared.code.Code.{Code}
 use Rattle.ckr_base.specs.declared.code.Code.TheVariants.{System, User}
 use Rattle.ckr_base.specs.declared.programs.Heads.{Heads}
 use Rattle.ckr_base.specs.declared.programs.UnitDone.{UnitDone as UnitOfProgram}
+use Rattle.ckr_points_invariant.specs.RunningSteps.{its_start}
 use Rattle.ckr_base.proofs.Numbers.{equal-itself}
 use Rattle.ckr_base.proofs.Options.{some-not-none}
 use Rattle.ckr_console.specs.declared.question.Answer.{Answer}
@@ -37,7 +38,6 @@ use Rattle.ckr_rules.specs.declared.cases.Rule.{Rule}
 use Rattle.ckr_rules.specs.declared.cases.Rule.TheVariants.{A6}
 use Rattle.ckr_rules.specs.declared.cases.Verdict.{Verdict}
 use Rattle.ckr_rules.specs.declared.cases.Verdict.TheVariants.{Checkpoint, Denied, Step}
-use Rattle.ckr_points_invariant.proofs.Steps.Commits.{its_start}
 use Rattle.ckr_desk_refines.proofs.Standing.Lengths.{lengths-so}
 use Rattle.ckr_desk_refines.specs.Moves.{event_in}
 use Rattle.ckr_desk_refines.specs.Standing.{StandsForDesk}

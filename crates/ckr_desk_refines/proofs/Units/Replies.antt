@@ -5,6 +5,7 @@ use Rattle.std.proofs.lemmas.Option.{same_Some}
 use Rattle.ckr_console.specs.declared.question.Answer.{Answer}
 use Rattle.ckr_desk_memory.specs.Plans.{told_by}
 use Rattle.ckr_desk_memory.specs.View.{JobsView, RunningStepView, lengths_of_row, running_of}
+use Rattle.ckr_points_invariant.specs.RunningSteps.{its_start}
 use Rattle.ckr_desk_turn.proofs.RunningSteps.{going-within, seen-so}
 use Rattle.ckr_desk_turn.proofs.NextEvents.WithinStep.{by-step}
 use Rattle.ckr_desk_refines.specs.StepSets.{HasSets}
@@ -12,7 +13,6 @@ use Rattle.ckr_meaning.specs.EffectiveJob.{names_of}
 use Rattle.ckr_meaning.specs.StepRun.{StepStart, case_at, work_at}
 use Rattle.ckr_points.specs.Payload.{lengths_at, rewrites_nothing}
 use Rattle.ckr_points.specs.Rows.{RunRow, TablesModel, run_of}
-use Rattle.ckr_points_invariant.proofs.Steps.Commits.{its_start}
 use Rattle.ckr_desk_refines.proofs.Standing.Lengths.{lengths-so}
 use Rattle.ckr_desk_refines.specs.Moves.{event_in, reply_in}
 use Rattle.ckr_steps.proofs.NextUnits.{taken_is}

@@ -11,6 +11,7 @@ use Rattle.ckr_base.specs.declared.programs.Finish.TheVariants as Finishes
 use Rattle.ckr_base.specs.declared.programs.Output.{Output}
 use Rattle.ckr_base.specs.declared.programs.Output.TheVariants.{Main, Rejects, InPlace}
 use Rattle.ckr_base.specs.declared.programs.Write.{Write}
+use Rattle.ckr_points_invariant.specs.RunningSteps.{IsRunning, its_start}
 use Rattle.ckr_base.proofs.Options.{some-not-none}
 use Rattle.ckr_base.proofs.Sequences.{append-cancel}
 use Rattle.ckr_base.specs.Columns.{fitted}
@@ -39,7 +40,7 @@ use Rattle.ckr_points.specs.Payload.{length_by, length_now, lengths_at, records_
 use Rattle.ckr_points.specs.Office.{Leg}
 use Rattle.ckr_points.specs.Restart.{place_of, step_in}
 use Rattle.ckr_points.specs.Rows.{RunRow, TableSet, run_of, step_of_run}
-use Rattle.ckr_points_invariant.proofs.Steps.Commits.{IsRunning, formed_step, its_start, place_so}
+use Rattle.ckr_points_invariant.proofs.Steps.Commits.{formed_step, place_so}
 use Rattle.ckr_points_invariant.proofs.Rewrite.Invariant.{rewritten-long, updated-name}
 use Rattle.ckr_steps.proofs.UnitProgress.{so_far_written}
 use Rattle.ckr_steps.proofs.NextHeads.{IsNamed, among_names, set_found, source_named}

@@ -38,12 +38,13 @@ use Rattle.ckr_points.specs.Rows.{EffectPoint, EntryPoint, KeptEntry, RunRow, Ta
 use Rattle.ckr_points.specs.Tables.{after_cancelled, after_checkpointed, committed, entry_point, fresh_effect, is_checkpoints, kept_entry, name_with_role, with_kept_entry}
 use Rattle.ckr_points_invariant.specs.Invariant.{IsKept, Shape, set_shape, table_shape}
 use Rattle.ckr_points_invariant.specs.Points.{ArePointed}
+use Rattle.ckr_points_invariant.specs.RunningSteps.{IsRunning, its_start}
 use Rattle.ckr_points_invariant.proofs.Holders.Places.{outputs-among}
 use Rattle.ckr_points_invariant.proofs.Holders.Rows.{run-same}
 use Rattle.ckr_points_invariant.proofs.Points.Lists.{pointed-next}
 use Rattle.ckr_points_invariant.proofs.RowChanges.{checkpointed}
 use Rattle.ckr_points_invariant.proofs.Library.Entries.{among-filter_map, is_name}
-use Rattle.ckr_points_invariant.proofs.Steps.Commits.{IsRunning, alike_within, formed_step, in_reach, its_start, place_so, under_way}
+use Rattle.ckr_points_invariant.proofs.Steps.Commits.{alike_within, formed_step, in_reach, place_so, under_way}
 use Rattle.ckr_desk_turn.specs.Checkpoints.{HasRow, MayCheckpoint, check_set, checkpoint_event, checkpoint_fits, entry_bytes, entry_end, written_entry, entry_place, entry_with, written_event, fits_in, is_check_set, is_in_range, lengths_with, next_entry, next_id, office_behind, entry_ending}
 use Rattle.ckr_desk_turn.specs.Desk.{DeskStep}
 use Rattle.ckr_desk_turn.specs.Invariant.{HasCome, HasComeSo, IsOpen}

@@ -25,11 +25,11 @@ use Rattle.ckr_points.specs.Rows.{KeptEntry, RunRow, run_of, with_run}
 use Rattle.ckr_points_invariant.specs.Invariant.{IsUnderWay, IsWithinStep}
 use Rattle.ckr_points_invariant.specs.KeptEvents.{AreKept}
 use Rattle.ckr_points_invariant.specs.Restorability.{StandsAt}
+use Rattle.ckr_points_invariant.specs.EarlierRuns.{MayContinue}
+use Rattle.ckr_points_invariant.specs.RunningSteps.{its_start}
 use Rattle.ckr_points_invariant.proofs.Continuations.Events.{continued-at-start, continued-from-entry}
-use Rattle.ckr_points_invariant.proofs.Continuations.Follows.{MayContinue}
 use Rattle.ckr_points_invariant.proofs.Holders.Rows.{run-other, run-same}
 use Rattle.ckr_points_invariant.proofs.Select.Holders.{leg_there}
-use Rattle.ckr_points_invariant.proofs.Steps.Commits.{its_start}
 use Rattle.ckr_points_invariant.proofs.Steps.Walks.{start_at-of}
 use Rattle.ckr_desk_turn.specs.Desk.{DeskModel, DeskStep, at_entry, behind, running_from, without_run}
 use Rattle.ckr_desk_turn.specs.Invariant.{IsAdmitted, IsDesk, IsFailed, IsGoing, IsOpen, is_accounted, is_on_one}

@@ -22,7 +22,7 @@ use Rattle.ckr_points.specs.Soundness.{serials}
 use Rattle.ckr_points.specs.declared.denial.Denial.{Denial}
 use Rattle.ckr_points_invariant.specs.KeptEvents.{AreKept}
 use Rattle.ckr_points_invariant.specs.WrittenEntries.{IsEntryOf, IsWrittenEntry}
-use Rattle.ckr_points_invariant.proofs.Continuations.Follows.{wanted_by}
+use Rattle.ckr_points_invariant.specs.EarlierRuns.{wanted_by}
 use Rattle.ckr_points_invariant.proofs.Continuations.WrittenEntries.Marks.{kept-so}
 use Rattle.ckr_rules.specs.RuleTables.{deferred}
 use Rattle.ckr_rules.specs.declared.cases.DeferredCase.{DeferredCase}

@@ -21,7 +21,7 @@ use Rattle.ckr_points.specs.RuleCases.{Wanted, deferred_case, stale_denial, want
 use Rattle.ckr_points.specs.Rows.{KeptEntry, RunRow, run_of}
 use Rattle.ckr_points.specs.Soundness.{deferred_rule, denying, serials}
 use Rattle.ckr_points_invariant.specs.Restorability.{StandsAt}
-use Rattle.ckr_points_invariant.proofs.Continuations.Follows.{MayContinue}
+use Rattle.ckr_points_invariant.specs.EarlierRuns.{MayContinue}
 use Rattle.ckr_rules.specs.RuleTables.{deferred, rule_number}
 use Rattle.ckr_rules.specs.declared.cases.Rule.{Rule}
 use Rattle.ckr_rules.specs.declared.cases.Verdict.{Verdict}

@@ -4,6 +4,7 @@ use Rattle.std.specs.Prelude.{◌==◌}
 use Rattle.std.specs.Option.{option_map_or}
 use Rattle.std.proofs.lemmas.Bool.{and_from}
 use Rattle.ckr_base.specs.declared.programs.Finish.TheVariants.{Returned}
+use Rattle.ckr_points_invariant.specs.RunningSteps.{IsRunning, its_start}
 use Rattle.ckr_base.proofs.Numbers.{equal-itself}
 use Rattle.ckr_events.specs.declared.event.Event.TheVariants.{StepEnded as StepEndedEvent}
 use Rattle.ckr_meaning.specs.LibrarySet.{AreWithinSpace}
@@ -16,7 +17,6 @@ use Rattle.ckr_points.specs.Payload.{commits, is_returned, lengths_at, of_start,
 use Rattle.ckr_points.specs.Office.{Leg}
 use Rattle.ckr_points.specs.Restart.{place_of, step_in}
 use Rattle.ckr_points.specs.Rows.{RunRow, run_of}
-use Rattle.ckr_points_invariant.proofs.Steps.Commits.{IsRunning, its_start}
 use Rattle.ckr_desk_turn.specs.Desk.{DeskModel}
 use Rattle.ckr_desk_turn.specs.NextEvents.{Comes, IsWithinStep}
 use Rattle.ckr_desk_turn.specs.Invariant.{IsDesk}

@@ -8,11 +8,12 @@ use Rattle.ckr_events.specs.declared.event.Made.{Made}
 use Rattle.ckr_events.specs.declared.event.Event.TheVariants.{Denied as DeniedEvent, Selected as SelectedEvent, Started as StartedEvent, Rewritten as RewrittenEvent, StepEnded as StepEndedEvent, Ended as EndedEvent, Purged as PurgedEvent}
 use Rattle.ckr_events.specs.declared.event.Ending.TheVariants.{Completed, Coded, Allocation}
 use Rattle.ckr_base.specs.declared.code.Code.{Code}
+use Rattle.ckr_points_invariant.specs.EarlierRuns.{IsEntryOf, MayContinue}
 use Rattle.ckr_base.proofs.Numbers.{one-plus}
 use Rattle.ckr_meaning.specs.EffectiveJob.{OwnedStep}
 use Rattle.ckr_jcl.specs.declared.deck.Job.{Job}
 use Rattle.ckr_library.specs.NameMaps.{Name}
-use Rattle.ckr_points_invariant.proofs.Continuations.Follows.{IsEntryOf, MayContinue, after-selected}
+use Rattle.ckr_points_invariant.proofs.Continuations.Follows.{after-selected}
 use Rattle.ckr_points_invariant.proofs.Holders.Rows.{queued-is}
 use Rattle.ckr_volumes.specs.declared.layout.Layout.{Layout}
 use Rattle.ckr_queue.specs.declared.entry.QueueEntry.{QueueEntry}

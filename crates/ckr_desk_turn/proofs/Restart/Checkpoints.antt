@@ -27,7 +27,7 @@ use Rattle.ckr_points_invariant.proofs.Readiness.Office.{entries-restorable}
 use Rattle.ckr_points_invariant.proofs.Readiness.Runs.{kept-entry}
 use Rattle.ckr_points_invariant.proofs.Restart.Event.{RestartsNow, at-step, entry-stands, holder-entry, restarts-now, row_back, sets_then_back, to-entry}
 use Rattle.ckr_points_invariant.proofs.Restart.Verdicts.{check-there, check-unwritten}
-use Rattle.ckr_points_invariant.proofs.Steps.Commits.{IsRunning, its_start, under_way}
+use Rattle.ckr_points_invariant.proofs.Steps.Commits.{under_way}
 use Rattle.ckr_rules.specs.declared.cases.Verdict.TheVariants.{Checkpoint}
 use Rattle.ckr_volumes.specs.declared.layout.Layout.{Layout}
 use Rattle.ckr_desk_turn.specs.Desk.{at_entry}
@@ -38,6 +38,7 @@ use Rattle.ckr_desk_turn.proofs.OtherRuns.{Changes}
 use Rattle.ckr_desk_turn.proofs.Restart.Events.{MayRestart, by-run, here, judged-so, restart-comes}
 use Rattle.ckr_desk_turn.proofs.RunningSteps.{nothing-between}
 use Rattle.ckr_points_invariant.specs.KeptEvents.{AreKept}
+use Rattle.ckr_points_invariant.specs.RunningSteps.{IsRunning, its_start}
 
 -- behind the records taken and the writes that an entry tells
 pub open-so : (start : StepStart) (point : EntryPoint) → carries_taken point.taken point.writes start ≡ true → IsOpen start (at_entry 0 point).progress

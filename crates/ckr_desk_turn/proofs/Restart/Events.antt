@@ -21,7 +21,6 @@ use Rattle.ckr_points.specs.Rows.{RunRow, TablesModel, run_of, step_of_run}
 use Rattle.ckr_points_invariant.specs.Invariant.{step_now}
 use Rattle.ckr_points_invariant.proofs.KeptEvents.{next-kept}
 use Rattle.ckr_points_invariant.proofs.Restart.Verdicts.{restarts-again}
-use Rattle.ckr_points_invariant.proofs.Steps.Commits.{IsRunning, its_start}
 use Rattle.ckr_rules.specs.declared.cases.Verdict.{Verdict}
 use Rattle.ckr_volumes.specs.declared.layout.Layout.{Layout}
 use Rattle.ckr_desk_turn.specs.Codes.{verdict_for}
@@ -31,6 +30,7 @@ use Rattle.ckr_desk_turn.specs.Restarts.{IsJudged, IsJudgedOff, restart_of}
 use Rattle.ckr_desk_turn.proofs.Checkpoints.Events.{runs}
 use Rattle.ckr_desk_turn.proofs.NextEvents.Holders.{HoldsStep, by-holder, may_go, of-run, on-holder}
 use Rattle.ckr_points_invariant.specs.KeptEvents.{AreKept}
+use Rattle.ckr_points_invariant.specs.RunningSteps.{IsRunning, its_start}
 
 pub same-number : (n : ℕ) → nat_eq n n ≡ true
 same-number n = grind (arith, nat_tests)

@@ -17,7 +17,6 @@ use Rattle.ckr_points.specs.Marks.{point_at}
 use Rattle.ckr_points.specs.Office.{Leg, Office}
 use Rattle.ckr_points.specs.Rows.{KeptEntry, RunRow, StartPoint, TablesModel, run_of, step_of_run}
 use Rattle.ckr_points_invariant.specs.Restorability.{StandsAt}
-use Rattle.ckr_points_invariant.proofs.Steps.Commits.{IsRunning}
 use Rattle.ckr_rules.specs.declared.cases.Verdict.TheVariants.{Step}
 use Rattle.ckr_desk_turn.specs.declared.plan.Plan.{Plan}
 use Rattle.ckr_desk_turn.specs.declared.plan.Plan.TheVariants.{Tell}
@@ -33,6 +32,7 @@ use Rattle.ckr_desk_turn.proofs.Restart.Events.{MayRestart, by-run, here, restar
 use Rattle.ckr_desk_turn.proofs.Restart.Steps.{step-begun, step-stands}
 use Rattle.ckr_desk_turn.proofs.Turns.Due.{find-seen}
 use Rattle.ckr_points_invariant.specs.KeptEvents.{AreKept}
+use Rattle.ckr_points_invariant.specs.RunningSteps.{IsRunning}
 
 -- ---- lists
 

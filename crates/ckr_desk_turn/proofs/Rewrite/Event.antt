@@ -33,7 +33,8 @@ use Rattle.ckr_points.specs.Restart.{place_of, step_in}
 use Rattle.ckr_points.specs.Rows.{RunRow, TableSet, step_of_run}
 use Rattle.ckr_points.specs.Soundness.{rewrite_of}
 use Rattle.ckr_points_invariant.specs.Invariant.{IsAgreed, IsUnderWay, Shape, counted, set_shape, table_shape}
-use Rattle.ckr_points_invariant.proofs.Steps.Commits.{IsRunning, alike_within, formed_step, in_reach, its_start, place_so, under_way}
+use Rattle.ckr_points_invariant.specs.RunningSteps.{IsRunning, its_start}
+use Rattle.ckr_points_invariant.proofs.Steps.Commits.{alike_within, formed_step, in_reach, place_so, under_way}
 use Rattle.ckr_points_invariant.proofs.Rewrite.Invariant.{have_lengths-same, rewritten-long, updated-name, within-next}
 use Rattle.ckr_points_invariant.proofs.Writes.Roles.{IsTarget, dd_role, formed-roles, target, target-named}
 use Rattle.ckr_points_invariant.proofs.Rewrite.Sets.{updated-made}

@@ -20,7 +20,8 @@ use Rattle.ckr_points.specs.Rows.{EffectPoint, KeptEntry, RunRow, TablesModel, r
 use Rattle.ckr_points.specs.declared.run.RunState.TheVariants.{On}
 use Rattle.ckr_points.specs.Tables.{fresh_effect}
 use Rattle.ckr_points_invariant.specs.KeptEvents.{AreKept}
-use Rattle.ckr_points_invariant.proofs.Continuations.Follows.{IsEntryOf, MayContinue, after-selected, may-continue}
+use Rattle.ckr_points_invariant.specs.EarlierRuns.{IsEntryOf, MayContinue}
+use Rattle.ckr_points_invariant.proofs.Continuations.Follows.{after-selected, may-continue}
 use Rattle.ckr_points_invariant.proofs.Select.Holders.{all_legs}
 use Rattle.ckr_points_invariant.proofs.WaitingRuns.{follows-of}
 use Rattle.ckr_volumes.specs.declared.layout.Layout.{Layout}

@@ -12,12 +12,11 @@ use Rattle.ckr_library.specs.declared.sets.Part.{Part}
 use Rattle.ckr_library.specs.declared.spread.Span.{Span}
 use Rattle.ckr_library.specs.Catalog.{Holding}
 use Rattle.ckr_library.specs.NameMaps.{EachEntry, Name, Named}
-use Rattle.ckr_library.specs.Spread.{filed, filed_all, is_before, is_on, span_of, spans_of, spans_of_all, spans_of_part}
+use Rattle.ckr_library.specs.Spread.{filed, filed_all, is_before, is_clear, is_on, span_of, spans_of, spans_of_all, spans_of_part}
 use Rattle.ckr_library.proofs.Laws.{filter-all}
 use Rattle.ckr_volumes.specs.declared.layout.Layout.{Layout}
 use Rattle.ckr_volumes.specs.Allocation.{Allotted}
 use Rattle.ckr_volumes.specs.Places.{StretchModel, bytes_of, stretch_on, stretches_of, stretches_of_part}
-use Rattle.ckr_volumes.specs.Space.{is_clear}
 use Rattle.ckr_volumes.specs.Layouts.{StandsIn, are_apart, lists_apart}
 
 -- ---- the spans of each data set

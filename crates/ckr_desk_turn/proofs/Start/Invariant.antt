@@ -33,7 +33,6 @@ use Rattle.ckr_points.specs.Marks.{with_point}
 use Rattle.ckr_points.specs.Office.{Leg, is_holder}
 use Rattle.ckr_points.specs.Restart.{place_of, step_in}
 use Rattle.ckr_points.specs.Rows.{RunRow, TableSet, TablesModel, run_of, standing_of, step_of_run, table_ways}
-use Rattle.ckr_points_invariant.proofs.Steps.Commits.{its_start}
 use Rattle.ckr_points_invariant.proofs.Holders.Rows.{run-other, run-same}
 use Rattle.ckr_points_invariant.proofs.Steps.Events.{led-by}
 use Rattle.ckr_points_invariant.proofs.Steps.Walks.{start_at-of}
@@ -50,6 +49,7 @@ use Rattle.ckr_desk_turn.proofs.OtherRuns.{Changes, admitted-then, each_row, fai
 use Rattle.ckr_desk_turn.proofs.Readiness.{kept-on}
 use Rattle.ckr_desk_turn.proofs.RunningSteps.{nothing-between}
 use Rattle.ckr_points_invariant.specs.KeptEvents.{AreKept}
+use Rattle.ckr_points_invariant.specs.RunningSteps.{its_start}
 
 -- nothing is written before the first record
 nothing-yet : (case : ProgramCase) → 0 ≡ length (upto case 0)

@@ -31,7 +31,8 @@ use Rattle.ckr_points.specs.declared.run.RunState.TheVariants.{Denied, Ended, He
 use Rattle.ckr_points_invariant.specs.Invariant.{step_now}
 use Rattle.ckr_points_invariant.specs.KeptEvents.{AreKept}
 use Rattle.ckr_points_invariant.specs.Readiness.{IsCheck}
-use Rattle.ckr_points_invariant.proofs.Continuations.Follows.{IsEntryOf, MayContinue, after-selected}
+use Rattle.ckr_points_invariant.specs.EarlierRuns.{IsEntryOf, MayContinue}
+use Rattle.ckr_points_invariant.proofs.Continuations.Follows.{after-selected}
 use Rattle.ckr_points_invariant.proofs.Holders.Rows.{run-same}
 use Rattle.ckr_points_invariant.proofs.Readiness.Office.{entries-restorable, steps-restorable}
 use Rattle.ckr_points_invariant.proofs.Readiness.Runs.{kept-entry}

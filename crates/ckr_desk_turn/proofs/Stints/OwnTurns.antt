@@ -40,7 +40,7 @@ use Rattle.ckr_points.specs.declared.reply.How.TheVariants.{Completed}
 use Rattle.ckr_points.specs.declared.reply.Reply.{Reply}
 use Rattle.ckr_points.specs.declared.reply.Reply.TheVariants.{AwaitingReply, Idle, JobEnded, Started, WaitingUnits}
 use Rattle.ckr_points_invariant.specs.Invariant.{IsHolder}
-use Rattle.ckr_points_invariant.proofs.Steps.Commits.{its_start}
+use Rattle.ckr_points_invariant.specs.RunningSteps.{its_start}
 use Rattle.ckr_points_invariant.proofs.Steps.Walks.{start_at-of}
 use Rattle.ckr_rules.specs.RuleTables.{suppresses}
 use Rattle.ckr_desk_turn.specs.declared.plan.Plan.{Plan}

@@ -8,6 +8,7 @@ use Rattle.std.proofs.lemmas.Option.{same_Some}
 use Rattle.ckr_points_library.specs.declared.cause.Refusal.{Refusal}
 use Rattle.ckr_points_library.specs.Allocation.{Allocation}
 use Rattle.ckr_base.specs.declared.code.Code.{Code}
+use Rattle.ckr_points_invariant.specs.RunningSteps.{its_start}
 use Rattle.ckr_base.proofs.Bools.{bool-cases, or-first-false, or-second-false}
 use Rattle.ckr_base.proofs.Options.{is_none-true, is_some-true, option-cases}
 use Rattle.ckr_console.specs.declared.question.Answer.{Answer}
@@ -27,7 +28,6 @@ use Rattle.ckr_points.specs.Payload.{writes_in}
 use Rattle.ckr_points.specs.Restart.{place_of, step_in}
 use Rattle.ckr_points.specs.Rows.{RunRow, run_of, standing_of, table_ways}
 use Rattle.ckr_points.specs.Soundness.{may_come}
-use Rattle.ckr_points_invariant.proofs.Steps.Commits.{its_start}
 use Rattle.ckr_points_invariant.proofs.Steps.Events.{led-by, within-is}
 use Rattle.ckr_points_invariant.proofs.Steps.Walks.{start_at-of}
 use Rattle.ckr_jcl.specs.declared.deck.Restart.{Restart}

@@ -25,7 +25,7 @@ use Rattle.ckr_points.specs.Soundness.{may_come}
 use Rattle.ckr_points.specs.declared.run.RunState.TheVariants.{On, Queued}
 use Rattle.ckr_points_invariant.specs.Invariant.{AreAlike, IsFree, IsKept, set_shape}
 use Rattle.ckr_points_invariant.specs.KeptEvents.{AreKept}
-use Rattle.ckr_points_invariant.proofs.Continuations.Follows.{MayContinue}
+use Rattle.ckr_points_invariant.specs.EarlierRuns.{MayContinue}
 use Rattle.ckr_points_invariant.proofs.Library.Entries.{at-taken_over}
 use Rattle.ckr_points_invariant.proofs.Holders.Rows.{run-same}
 use Rattle.ckr_points_invariant.proofs.Select.Holders.{leg_here, leg_there}

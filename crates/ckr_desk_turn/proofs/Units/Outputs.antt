@@ -29,7 +29,8 @@ use Rattle.ckr_points.specs.Office.{Leg, Office}
 use Rattle.ckr_points.specs.Restart.{place_of, step_in}
 use Rattle.ckr_points.specs.Rows.{RunRow, TableSet, step_of_run}
 use Rattle.ckr_points_invariant.specs.Invariant.{AreAlike, IsAgreed, Shape, counted, set_shape, table_shape}
-use Rattle.ckr_points_invariant.proofs.Steps.Commits.{IsRunning, alike_within, formed_step, in_reach, its_start, place_so, under_way}
+use Rattle.ckr_points_invariant.specs.RunningSteps.{IsRunning, its_start}
+use Rattle.ckr_points_invariant.proofs.Steps.Commits.{alike_within, formed_step, in_reach, place_so, under_way}
 use Rattle.ckr_points_invariant.proofs.Holders.Places.{outputs-among}
 use Rattle.ckr_points_invariant.proofs.Steps.Walks.{at-before}
 use Rattle.ckr_points_invariant.proofs.Writes.Likeness.{bare, written_all-bare}

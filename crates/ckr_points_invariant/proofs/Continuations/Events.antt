@@ -24,8 +24,9 @@ use Rattle.ckr_points_invariant.specs.JobNames.{AreKin}
 use Rattle.ckr_points_invariant.specs.KeptEvents.{AreKept}
 use Rattle.ckr_points_invariant.specs.Restorability.{StandsAt}
 use Rattle.ckr_points_invariant.specs.StartedSteps.{HasBegunSteps}
+use Rattle.ckr_points_invariant.specs.EarlierRuns.{IsEntryOf, MayContinue}
 use Rattle.ckr_points_invariant.proofs.Continuations.EarlierRun.{Coming, leg_from}
-use Rattle.ckr_points_invariant.proofs.Continuations.Follows.{IsEntryOf, MayContinue, may-continue}
+use Rattle.ckr_points_invariant.proofs.Continuations.Follows.{may-continue}
 use Rattle.ckr_points_invariant.proofs.Continuations.OfficeBehind.{AgreesBehind}
 use Rattle.ckr_points_invariant.proofs.Continuations.OfficesBehind.{agrees-behind}
 use Rattle.ckr_points_invariant.proofs.Continuations.ReachedNames.NamesBehind.{named-behind}

@@ -3,6 +3,7 @@ use Rattle.std.proofs.Common.{◌≡◌, ◌≢◌, ℕ, suc, pred, Bool, true, 
 use Rattle.std.specs.Prelude.{◌==◌, slice_get}
 use Rattle.std.specs.Option.{option_map_or, is_none, is_some}
 use Rattle.std.proofs.lemmas.Bool.{false≢true}
+use Rattle.ckr_points_invariant.specs.EarlierRuns.{IsEntryOf, MayContinue, has_marks, wanted_by}
 use Rattle.ckr_base.proofs.Bools.{and-first, and-second}
 use Rattle.ckr_base.proofs.Numbers.{equal-true}
 use Rattle.ckr_base.proofs.Options.{is_none-true, is_some-true}
@@ -18,56 +19,9 @@ use Rattle.ckr_points.specs.Follows.{is_free, is_in_state, is_point_of, may_cont
 use Rattle.ckr_points.specs.Marks.{point_at, sysout_names}
 use Rattle.ckr_points.specs.Freshness.{fresh}
 use Rattle.ckr_points.specs.Restart.{after_chosen, after_continued, after_continued_at, after_event, continued_row, kept_at, needed_names, spliced, syschk_name, without_names}
-use Rattle.ckr_points.specs.RuleCases.{Wanted, has_present_marks, is_ended, is_same_step, entry_denial, number_named, stale_denial, start_denial, was_selected}
+use Rattle.ckr_points.specs.RuleCases.{Wanted, is_ended, is_same_step, entry_denial, number_named, stale_denial, start_denial, was_selected}
 use Rattle.ckr_points.specs.Rows.{KeptEntry, RunRow, StartPoint, TablesModel, run_of}
 use Rattle.ckr_points.specs.Statements.{same_statements}
-
--- a deferred restart by an earlier run, as it is judged
-abbrev pub wanted_by : TablesModel → RunRow → RunRow → ℕ → Option Name → Wanted
-wanted_by tables row other step id = record {
-  number = step;
-  checkpoint = is_some id;
-  entry = option_map_or (λ text. kept_at tables.sets (syschk_name row.deck) text) id None;
-  earlier = Some other;
-  step = slice_get row.deck.steps (pred step);
-}
-
--- the entry of a restart at a checkpoint marks each name of the step present
-abbrev pub has_marks : RunRow → Wanted → OwnedStep → Bool
-has_marks other wanted owned = option_map_or (λ entry. has_present_marks other owned entry.point) wanted.entry (not wanted.checkpoint)
-
--- the entry of a restart at a checkpoint is of the earlier run and of the step
-abbrev pub IsEntryOf : RunRow → ℕ → Option Name → Option KeptEntry → Type 0
-IsEntryOf other step None entry = Unit {0}
-IsEntryOf other step (Some id) None = ⊥
-IsEntryOf other step (Some id) (Some entry) = (entry.point.run ≡ other.number) × (entry.point.step ≡ step)
-
--- A run that continues another one may be selected.
-pub record MayContinue (layout : Layout) (tables : TablesModel) (job initiator earlier step : ℕ) (id : Option Name) : Type 0 where
-  pub row : RunRow
-  pub row_at : run_of tables job ≡ Some row
-  pub queued : is_in_state Queued row ≡ true
-  pub free : is_free layout tables initiator ≡ true
-  pub may : may_hold tables row ≡ true
-  pub restart : Restart
-  pub has : row.deck.restart ≡ Some restart
-  pub numbered : restart.step ≡ step
-  pub other : RunRow
-  pub other_at : run_of tables earlier ≡ Some other
-  pub selected : was_selected other ≡ true
-  pub named : same_name other.deck.name row.deck.name ≡ true
-  pub ended : is_ended other.state ≡ true
-  pub point : StartPoint
-  pub at_point : point_at other.points step ≡ Some point
-  pub mine : Step
-  pub its : slice_get row.deck.steps (pred step) ≡ Some mine
-  pub owned : OwnedStep
-  pub found : step_at other.job step ≡ Some owned
-  pub same : same_statements owned.step mine ≡ true
-  pub marks : has_marks other (wanted_by tables row other step id) owned ≡ true
-  pub counted : (number_named other mine.name == step) ≡ true
-  pub fresh : stale_denial row (wanted_by tables row other step id) tables ≡ None
-  pub entry : IsEntryOf other step id (wanted_by tables row other step id).entry
 
 module _ (layout : Layout) (tables : TablesModel) (job initiator earlier step : ℕ) (id : Option Name) where
   entry-of : (other : RunRow) (id : Option Name) (entry : Option KeptEntry) → option_map_or (is_point_of other.number step) entry (not (is_some id)) ≡ true → IsEntryOf other step id entry

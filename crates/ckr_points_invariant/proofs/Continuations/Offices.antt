@@ -15,7 +15,7 @@ use Rattle.ckr_points.specs.Rows.{RunRow, TableSet, TablesModel, run_of}
 use Rattle.ckr_points_invariant.specs.Invariant.{IsKept}
 use Rattle.ckr_points_invariant.specs.Points.{ArePointed}
 use Rattle.ckr_points_invariant.specs.StartedSteps.{AreBegunSteps, HasBegunSteps}
-use Rattle.ckr_points_invariant.proofs.Continuations.Follows.{MayContinue}
+use Rattle.ckr_points_invariant.specs.EarlierRuns.{MayContinue}
 use Rattle.ckr_points_invariant.proofs.Holders.Rows.{queued-is, run-other, run-same}
 use Rattle.ckr_points_invariant.proofs.Marks.Points.{differs}
 use Rattle.ckr_points_invariant.proofs.Select.Holders.{leg_here, leg_there}

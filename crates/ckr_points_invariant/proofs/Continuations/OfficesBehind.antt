@@ -20,10 +20,10 @@ use Rattle.ckr_points_invariant.specs.Readiness.{AreReady}
 use Rattle.ckr_points_invariant.specs.StartedSteps.{AreBegunSteps}
 use Rattle.ckr_points_invariant.specs.WrittenEntries.{AreWrittenEntries}
 use Rattle.ckr_points_invariant.proofs.WrittenEntries.Offices.{IsGrown}
-use Rattle.ckr_points_invariant.proofs.Continuations.Follows.{MayContinue}
 use Rattle.ckr_points_invariant.proofs.Continuations.EarlierRun.{Coming, IsContinued, IsPutBack, leg_from, row_then, sets_then, tables_then}
 use Rattle.ckr_points_invariant.proofs.Decks.Events.{with-orderly}
 use Rattle.ckr_points_invariant.specs.JobNames.{HasUses}
+use Rattle.ckr_points_invariant.specs.EarlierRuns.{MayContinue}
 use Rattle.ckr_points_invariant.proofs.Continuations.OfficeBehind.{AgreesBehind}
 use Rattle.ckr_points_invariant.proofs.Continuations.Agreement as agreement
 use Rattle.ckr_points_invariant.proofs.Continuations.Continued.{agrees-continued, outside-continued, place-continued}

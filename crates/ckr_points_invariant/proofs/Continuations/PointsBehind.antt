@@ -23,7 +23,6 @@ use Rattle.ckr_points.specs.Rows.{KeptEntry, RunRow, StartPoint, TableSet}
 use Rattle.ckr_points_invariant.specs.Invariant.{AreAlike, AreBegun, AreStamped, IsKept, IsMarkedShort, IsReached, MarksHold, PointsHold}
 use Rattle.ckr_points_invariant.specs.Points.{AreEntryPoints, ArePointed, AreStepPoints, IsPointAt}
 use Rattle.ckr_points_invariant.specs.StartedSteps.{AreBegunSteps}
-use Rattle.ckr_points_invariant.proofs.Continuations.Follows.{MayContinue}
 use Rattle.ckr_points_invariant.proofs.Marks.Changes.{Entries, Points, fewer as fewer-marks}
 use Rattle.ckr_points_invariant.proofs.Restart.Points.{back-holds, fewer}
 use Rattle.ckr_points_invariant.proofs.Stamps.Tables.{each-weaker, marks-weaker, table-short}
@@ -37,6 +36,7 @@ use Rattle.ckr_points_invariant.proofs.Continuations.ShortMarks.{point-short, sh
 use Rattle.ckr_points_invariant.proofs.Continuations.Stamps.EarlierSteps as earlier_steps
 use Rattle.ckr_points_invariant.proofs.Continuations.Stamps.Places.{all-begun}
 use Rattle.ckr_points_invariant.specs.Restorability.{HasPoint}
+use Rattle.ckr_points_invariant.specs.EarlierRuns.{MayContinue}
 
 module _ (layout : Layout) (now : Office) (job initiator before step : ℕ) (id : Option Name) (its : MayContinue layout now.tables job initiator (suc before) step id) (start : Library) (reach : List Name)
     (kept : IsKept layout now) (begun : AreBegunSteps now) (pointed : ArePointed now) (led : leg_of now (suc before) ≡ Some (leg_from its.other start reach))

@@ -15,7 +15,8 @@ use Rattle.ckr_points.specs.Office.{Leg}
 use Rattle.ckr_points.specs.Payload.{writes_in}
 use Rattle.ckr_points.specs.Restart.{step_in}
 use Rattle.ckr_points_invariant.specs.Invariant.{IsReached}
-use Rattle.ckr_points_invariant.proofs.Steps.Walks.{start_at-of, start_of}
+use Rattle.ckr_points_invariant.specs.RunningSteps.{start_of}
+use Rattle.ckr_points_invariant.proofs.Steps.Walks.{start_at-of}
 
 -- a step as it starts, by its step
 pub start-found : (job : Effective) (library : Library) (number : ℕ) (start : StepStart) → start_at job library number ≡ Some start → (owned : OwnedStep) × (step_at job number ≡ Some owned) × (start_of job library number owned ≡ start)

@@ -21,7 +21,7 @@ use Rattle.ckr_points_invariant.specs.Invariant.{IsAtPlace, IsHolder, IsKept, st
 use Rattle.ckr_points_invariant.specs.Points.{ArePointed}
 use Rattle.ckr_points_invariant.specs.Readiness.{AreReady, IsReady}
 use Rattle.ckr_points_invariant.specs.StartedSteps.{AreBegunSteps}
-use Rattle.ckr_points_invariant.proofs.Continuations.Follows.{MayContinue}
+use Rattle.ckr_points_invariant.specs.EarlierRuns.{MayContinue}
 use Rattle.ckr_points_invariant.proofs.Holders.Places.{outputs-among}
 use Rattle.ckr_points_invariant.proofs.Readiness.Runs.{ready-same}
 use Rattle.ckr_points_invariant.proofs.Continuations.EarlierRun.{Coming, IsPutBack, leg_from, row_then}

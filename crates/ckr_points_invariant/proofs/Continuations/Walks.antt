@@ -13,9 +13,10 @@ use Rattle.ckr_points.specs.Office.{Leg, Office, continued_leg}
 use Rattle.ckr_points.specs.Restart.{step_in}
 use Rattle.ckr_points.specs.Rows.{RunRow, StartPoint}
 use Rattle.ckr_points_invariant.specs.StartedSteps.{start_by}
+use Rattle.ckr_points_invariant.specs.RunningSteps.{start_of}
 use Rattle.ckr_points_invariant.proofs.Continuations.Fronts.{begins-alike}
 use Rattle.ckr_points_invariant.proofs.Soundness.{at-passed}
-use Rattle.ckr_points_invariant.proofs.Steps.Walks.{start_at-of, start_of}
+use Rattle.ckr_points_invariant.proofs.Steps.Walks.{start_at-of}
 use Rattle.ckr_points_invariant.proofs.Continuations.EarlierRun.{Coming, IsEarlier, leg_from, row_then}
 
 module _ (now : Office) (row other : RunRow) (start : Library) (reach : List Name) (step : ℕ) (point : StartPoint) (earlier : IsEarlier now row other (leg_from other start reach) step point)

@@ -1,5 +1,5 @@
 -- The job names of runs, and the names that holders reach, in other tables: runs keep their decks, and ended ones have ended there.
-use Rattle.std.proofs.Common.{◌≡◌, ◌≢◌, ℕ, Bool, true, false, ap, sym, ◌∙◌, subst, Option, Some, None}
+use Rattle.std.proofs.Common.{◌≡◌, ◌≢◌, ℕ, true, false, ap, sym, ◌∙◌, subst, Option, Some, None}
 use Rattle.std.specs.Prelude.{◌==◌}
 use Rattle.std.specs.Option.{is_some, option_map_or}
 use Rattle.std.proofs.lemmas.Bool.{false≢true, or_left, or_right}
@@ -12,16 +12,7 @@ use Rattle.ckr_meaning.specs.EffectiveJob.{plain_job}
 use Rattle.ckr_points.specs.Office.{Leg}
 use Rattle.ckr_points.specs.RuleCases.{is_ended}
 use Rattle.ckr_points.specs.Rows.{RunRow, TablesModel, run_of}
-use Rattle.ckr_points_invariant.specs.JobNames.{HasJobName, HasUses, IsKin, IsNameOf, keeps_points}
-
--- the run of this number has ended
-abbrev pub has_ended : TablesModel → ℕ → Bool
-has_ended tables number = option_map_or (λ row. is_ended row.state) (run_of tables number) false
-
--- each run has the same job name in the later tables, and has ended there where it has here
-pub record KeepsJobNames (tables later : TablesModel) : Type 0 where
-  pub named : (number : ℕ) (name : Name) → HasJobName tables number name → HasJobName later number name
-  pub ended : (number : ℕ) → has_ended tables number ≡ true → has_ended later number ≡ true
+use Rattle.ckr_points_invariant.specs.JobNames.{HasJobName, HasUses, IsKin, IsNameOf, KeepsJobNames, has_ended, keeps_points}
 
 -- ---- a run there, with the number and the deck that it has here
 

@@ -25,10 +25,10 @@ use Rattle.ckr_points.specs.Office.{Leg, Office, is_holder, leg_of, standing_at}
 use Rattle.ckr_points.specs.Restart.{place_of}
 use Rattle.ckr_points.specs.Rows.{RunRow, TableSet, run_of, with_run}
 use Rattle.ckr_points.specs.Soundness.{AreLaidOut}
-use Rattle.ckr_points_invariant.proofs.Holders.JobNames.{KeepsJobNames, one-row-keeps, uses-stay}
+use Rattle.ckr_points_invariant.proofs.Holders.JobNames.{one-row-keeps, uses-stay}
 use Rattle.ckr_points_invariant.proofs.Holders.Rows.{PointsStay, holder-ended, holder-waits, leg-number, place-stays, run-other, run-same}
 use Rattle.ckr_points_invariant.proofs.Holders.SharedSets.{at-left}
-use Rattle.ckr_points_invariant.specs.JobNames.{HasUses}
+use Rattle.ckr_points_invariant.specs.JobNames.{HasUses, KeepsJobNames}
 
 -- the office with a run's row, with these data sets and this library
 abbrev pub moved : RunRow → Named TableSet → Library → Office → Office

@@ -16,9 +16,10 @@ use Rattle.ckr_points.specs.declared.run.RunState.TheVariants.{Queued}
 use Rattle.ckr_points.specs.Follows.{is_in_state}
 use Rattle.ckr_points.specs.RuleCases.{is_ended}
 use Rattle.ckr_points_invariant.specs.Invariant.{IsHolder, IsAgreed, IsKnownLeg, IsWaiting, set_shape}
+use Rattle.ckr_points_invariant.specs.JobNames.{KeepsJobNames}
 use Rattle.ckr_points.specs.Office.{Leg, Office, is_holder, leg_of}
 use Rattle.ckr_points.specs.Rows.{RunRow, run_of}
-use Rattle.ckr_points_invariant.proofs.Holders.JobNames.{KeepsJobNames, others-keep, uses-stay}
+use Rattle.ckr_points_invariant.proofs.Holders.JobNames.{others-keep, uses-stay}
 use Rattle.ckr_points_invariant.proofs.Holders.Rows.{PointsStay, place-stays}
 use Rattle.ckr_points_invariant.proofs.Holders.Moves.{standing-is}
 

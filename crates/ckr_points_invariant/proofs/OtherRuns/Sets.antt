@@ -30,6 +30,7 @@ use Rattle.ckr_points.specs.Rows.{RunRow, TableSet, TablesModel, run_of, standin
 use Rattle.ckr_points.specs.Soundness.{may_come}
 use Rattle.ckr_points.specs.Tables.{after_checkpointed, after_commit, after_dispositions, after_held, after_rewritten, after_step_ended, committed, is_checkpoints, is_updates, name_with_role, table_rewritten}
 use Rattle.ckr_points_invariant.specs.Invariant.{IsAgreed, IsAtPlace, IsHolder, step_now}
+use Rattle.ckr_points_invariant.specs.RunningSteps.{IsRunning, its_start}
 use Rattle.ckr_points_invariant.proofs.Library.Likeness.{made_all-apart, opened_all-apart, placed-apart}
 use Rattle.ckr_points_invariant.proofs.Library.PassedList.{ended-stays}
 use Rattle.ckr_points_invariant.proofs.Rewrite.Invariant.{updated-name}
@@ -37,7 +38,7 @@ use Rattle.ckr_points_invariant.proofs.RunEnd.Event.{committed_office, kept_then
 use Rattle.ckr_points_invariant.proofs.Start.Event.{by-start, running-so}
 use Rattle.ckr_points_invariant.proofs.Start.Invariant as starting
 use Rattle.ckr_points_invariant.proofs.StepEnd.Invariant.{disposed-enters, disposed-outside}
-use Rattle.ckr_points_invariant.proofs.Steps.Commits.{IsRunning, carried-of, formed_step, in_reach, its_start, out_of_outputs}
+use Rattle.ckr_points_invariant.proofs.Steps.Commits.{carried-of, formed_step, in_reach, out_of_outputs}
 use Rattle.ckr_points_invariant.proofs.Steps.Events.{led-by, on-holds, running-holds, running-within, step-by}
 use Rattle.ckr_points_invariant.proofs.WaitingRuns.{follows-of, tested-run}
 use Rattle.ckr_points_invariant.proofs.Writes.Likeness.{committed-other}

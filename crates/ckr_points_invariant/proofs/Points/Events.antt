@@ -35,6 +35,7 @@ use Rattle.ckr_points.specs.Tables.{after_checkpointed, after_commit, after_held
 use Rattle.ckr_volumes.specs.declared.layout.Layout.{Layout}
 use Rattle.ckr_points_invariant.specs.Invariant.{IsAgreed, IsHolder, PointsHold, set_shape, step_now}
 use Rattle.ckr_points_invariant.specs.Points.{AreEntryPoints, ArePointed, AreStepPoints, IsPointAt}
+use Rattle.ckr_points_invariant.specs.RunningSteps.{IsRunning, its_start}
 use Rattle.ckr_points_invariant.proofs.Holders.Moves.{standing-is}
 use Rattle.ckr_points_invariant.proofs.Holders.Rows.{run-same}
 use Rattle.ckr_points_invariant.proofs.Points.Places.{point-now}
@@ -44,7 +45,7 @@ use Rattle.ckr_points_invariant.proofs.Select.Invariant.{chosen, led_there, next
 use Rattle.ckr_points_invariant.proofs.Stamps.Tables.{each-weaker}
 use Rattle.ckr_points_invariant.proofs.Start.Event.{by-start, running-so}
 use Rattle.ckr_points_invariant.proofs.Start.Invariant as starting
-use Rattle.ckr_points_invariant.proofs.Steps.Commits.{IsRunning, carried-of, its_start}
+use Rattle.ckr_points_invariant.proofs.Steps.Commits.{carried-of}
 use Rattle.ckr_points_invariant.proofs.Steps.Events.{kept-commit, led-by, on-holds, step-by}
 use Rattle.ckr_points_invariant.proofs.Steps.Walks.{at-opened}
 use Rattle.ckr_points_invariant.proofs.WaitingRuns.{by-selected, follows-of, tested-run}

@@ -35,11 +35,12 @@ use Rattle.ckr_points_invariant.proofs.Holders.Places.{outputs-among}
 use Rattle.ckr_points_invariant.proofs.Marks.Points.{present-now}
 use Rattle.ckr_points_invariant.proofs.Points.Places.{point-now}
 use Rattle.ckr_points_invariant.proofs.RunEnd.Event.{committed_office, kept_then, running_then}
-use Rattle.ckr_points_invariant.proofs.Steps.Commits.{IsRunning, alike_within, formed_step, found_leg, its_start}
+use Rattle.ckr_points_invariant.proofs.Steps.Commits.{alike_within, formed_step, found_leg}
 use Rattle.ckr_points_invariant.proofs.Steps.Walks.{at-within}
 use Rattle.ckr_points_invariant.proofs.Writes.Likeness.{committed-other}
 use Rattle.ckr_points_invariant.specs.Readiness.{IsCheck, IsReady, KeepsEntry}
 use Rattle.ckr_points_invariant.specs.Restorability.{HasPoint, IsRestorable}
+use Rattle.ckr_points_invariant.specs.RunningSteps.{IsRunning, its_start}
 use Rattle.ckr_points_invariant.proofs.OtherRuns.Sets.{length-among}
 use Rattle.ckr_points_invariant.proofs.Readiness.Commits.{HasTable, committed-has, committed-restorable, next_row, sets_behind, start_is}
 use Rattle.ckr_points_invariant.proofs.Readiness.Writes.{unwritten-none}

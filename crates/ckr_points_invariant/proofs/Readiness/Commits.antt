@@ -25,10 +25,11 @@ use Rattle.ckr_points.specs.Restart.{place_of}
 use Rattle.ckr_points.specs.Rows.{EffectPoint, KeptEntry, RunRow, TableSet, cut_set}
 use Rattle.ckr_points.specs.Tables.{committed}
 use Rattle.ckr_points_invariant.specs.Invariant.{IsAgreed, step_now}
-use Rattle.ckr_points_invariant.proofs.Steps.Commits.{IsRunning, found_leg, its_start}
+use Rattle.ckr_points_invariant.proofs.Steps.Commits.{found_leg}
 use Rattle.ckr_points_invariant.proofs.Steps.Walks.{start_at-of}
 use Rattle.ckr_points_invariant.specs.Readiness.{IsCheck, IsReady, KeepsEntry}
 use Rattle.ckr_points_invariant.specs.Restorability.{IsRestorable}
+use Rattle.ckr_points_invariant.specs.RunningSteps.{IsRunning, its_start}
 use Rattle.ckr_points_invariant.proofs.Readiness.Writes.{unwritten-on}
 
 -- ---- entries that are kept

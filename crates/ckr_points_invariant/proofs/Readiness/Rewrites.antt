@@ -23,8 +23,9 @@ use Rattle.ckr_points.specs.Tables.{committed, effect_rewritten, is_updates, nam
 use Rattle.ckr_points_invariant.specs.Invariant.{IsAgreed, step_now}
 use Rattle.ckr_points_invariant.proofs.Rewrite.Invariant.{updated-name}
 use Rattle.ckr_points_invariant.proofs.Rewrite.Sets.{updated-out}
-use Rattle.ckr_points_invariant.proofs.Steps.Commits.{IsRunning, formed_step, its_start}
+use Rattle.ckr_points_invariant.proofs.Steps.Commits.{formed_step}
 use Rattle.ckr_points_invariant.specs.Readiness.{IsCheck, IsReady}
+use Rattle.ckr_points_invariant.specs.RunningSteps.{IsRunning, its_start}
 use Rattle.ckr_points_invariant.proofs.Readiness.Commits.{committed-keeps}
 
 -- the point of the step tells the rewrite

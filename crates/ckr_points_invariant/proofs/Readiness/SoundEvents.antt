@@ -12,7 +12,7 @@ use Rattle.ckr_points.specs.Office.{Office, no_office, office_after}
 use Rattle.ckr_points.specs.Rows.{RunRow, run_of}
 use Rattle.ckr_points_invariant.specs.KeptEvents.{AreKept}
 use Rattle.ckr_points_invariant.specs.Readiness.{AreReady}
-use Rattle.ckr_points_invariant.proofs.Continuations.Tests.{continues}
+use Rattle.ckr_points_invariant.specs.EarlierRuns.{continues}
 use Rattle.ckr_points_invariant.proofs.Readiness.RunEvents.{ready-allocation, ready-cancel, ready-coded, ready-completed, ready-denied, ready-purged, ready-released, ready-selected, ready-submitted}
 use Rattle.ckr_points_invariant.proofs.Readiness.StepEvents.{ready-checkpointed, ready-entry, ready-held, ready-rewritten, ready-start, ready-started, ready-step_end}
 

@@ -25,9 +25,9 @@ use Rattle.ckr_points_invariant.proofs.Holders.SharedSets.{Unmade}
 use Rattle.ckr_points_invariant.proofs.Marks.Points.{point_at-new}
 use Rattle.ckr_points_invariant.proofs.Start.Event.{StartsNow}
 use Rattle.ckr_points_invariant.proofs.Start.Invariant as starting
-use Rattle.ckr_points_invariant.proofs.Steps.Commits.{its_start}
 use Rattle.ckr_points_invariant.specs.Readiness.{IsReady}
 use Rattle.ckr_points_invariant.specs.Restorability.{IsRestorable}
+use Rattle.ckr_points_invariant.specs.RunningSteps.{its_start}
 use Rattle.ckr_points_invariant.proofs.Readiness.Writes.{unwritten-none}
 
 -- ---- what a step makes, of the tables

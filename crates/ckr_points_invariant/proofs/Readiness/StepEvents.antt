@@ -28,7 +28,7 @@ use Rattle.ckr_points_invariant.specs.Invariant.{IsAgreed, IsHolder, step_now}
 use Rattle.ckr_points_invariant.specs.Points.{ArePointed}
 use Rattle.ckr_points_invariant.proofs.Holders.Rows.{holder-waits, run-other, run-same}
 use Rattle.ckr_points_invariant.proofs.Start.Event.{by-start, running-so}
-use Rattle.ckr_points_invariant.proofs.Steps.Commits.{IsRunning, carried-of, its_start}
+use Rattle.ckr_points_invariant.proofs.Steps.Commits.{carried-of}
 use Rattle.ckr_points_invariant.proofs.Steps.Events.{led-by, on-holds, running-holds, running-within, step-by}
 use Rattle.ckr_points_invariant.proofs.WaitingRuns.{follows-of, tested-run}
 use Rattle.ckr_points_invariant.specs.Readiness.{AreReady, IsCheck, IsReady}
@@ -44,6 +44,7 @@ use Rattle.ckr_points_invariant.proofs.Readiness.Starts.{started-ready, started_
 use Rattle.ckr_points_invariant.proofs.Restart.Event.{by-run, entry-by, entry-left, row_back, row_then, sets_then, sets_then_back, start-by, start-left}
 use Rattle.ckr_points_invariant.proofs.Restart.Verdicts.{check-unwritten}
 use Rattle.ckr_points_invariant.specs.Restorability.{HasPoint}
+use Rattle.ckr_points_invariant.specs.RunningSteps.{IsRunning, its_start}
 
 module _ (layout : Layout) (now : Office) (kept : IsAgreed layout now) (pointed : ArePointed now) (ready : AreReady now) where
   -- what holds of a run's leg holds of any that it has

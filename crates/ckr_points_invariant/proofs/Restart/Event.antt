@@ -39,10 +39,10 @@ use Rattle.ckr_points_invariant.proofs.Points.Rows as rows
 use Rattle.ckr_points_invariant.proofs.Soundness.{at-passed}
 use Rattle.ckr_points_invariant.proofs.Stamps.Events.{same_library}
 use Rattle.ckr_points_invariant.proofs.Start.Event.{running-so}
-use Rattle.ckr_points_invariant.proofs.Steps.Commits.{IsRunning}
 use Rattle.ckr_points_invariant.proofs.Steps.Events.{led-by, running-holds, running-within}
 use Rattle.ckr_points_invariant.proofs.WaitingRuns.{follows-of, tested-run}
 use Rattle.ckr_points_invariant.specs.Restorability.{AreEntriesRestorable, AreStepsRestorable, HasPoint, IsRestorable, LeavesTheRest, StandsAt}
+use Rattle.ckr_points_invariant.specs.RunningSteps.{IsRunning}
 use Rattle.ckr_points_invariant.proofs.Restart.Invariant.{entry-outside, entry-shared, entry_row, entry_sets, kept-entry_back, kept-start_back, point-of, start-outside, start-shared, start_row, start_sets}
 use Rattle.ckr_points_invariant.proofs.Restart.Points.{back-holds, fewer, points-with}
 use Rattle.ckr_points_invariant.proofs.Restart.Verdicts.{check-unwritten, start-unwritten}

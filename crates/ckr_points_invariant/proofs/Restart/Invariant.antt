@@ -38,9 +38,10 @@ use Rattle.ckr_points_invariant.proofs.Marks.Points.{carried-again, carried-same
 use Rattle.ckr_points_invariant.proofs.Select.Invariant.{among-step}
 use Rattle.ckr_points_invariant.proofs.Soundness.{at-passed}
 use Rattle.ckr_points_invariant.proofs.Start.Openings.{opened-none}
-use Rattle.ckr_points_invariant.proofs.Steps.Commits.{IsRunning, alike_within, formed_step, found_leg, has_next, in_reach, its_start, now, place_so, under_way}
+use Rattle.ckr_points_invariant.proofs.Steps.Commits.{alike_within, formed_step, found_leg, has_next, in_reach, now, place_so, under_way}
 use Rattle.ckr_points_invariant.proofs.Steps.Walks.{at-opened, at-within, start_at-of}
 use Rattle.ckr_points_invariant.specs.Restorability.{HasPoint, IsRestorable}
+use Rattle.ckr_points_invariant.specs.RunningSteps.{IsRunning, its_start}
 use Rattle.ckr_points_invariant.proofs.PutBack.Sets.{at-removed_all, back_to, put_back-apart, put_back-laid, put_back-marked, put_back-none, removed_all-laid, to_catalog}
 use Rattle.ckr_points_invariant.proofs.OtherRuns.Outputs.{not-output}
 use Rattle.ckr_points_invariant.proofs.Restart.Libraries.{opened-made, put_back-within, within-other}

@@ -24,13 +24,14 @@ use Rattle.ckr_points.specs.Tables.{after_rewritten, committed, is_updates, name
 use Rattle.ckr_points.specs.Follows.{are_lengths, is_in_state, is_rewrite, is_running, is_update, is_within, lengths_follow, of_step}
 use Rattle.ckr_points.specs.Payload.{carries, carries_lengths, carries_rewrite, carries_taken, have_lengths, is_formed_step, records_under, rewrites_nothing, writes_in}
 use Rattle.ckr_points_invariant.specs.Invariant.{AreAlike, IsAgreed, set_shape, step_now, table_shape}
+use Rattle.ckr_points_invariant.specs.RunningSteps.{IsRunning, its_start}
 use Rattle.ckr_points_library.specs.Commit.{output_names}
 use Rattle.ckr_points.specs.Office.{Leg, Office, office_after}
 use Rattle.ckr_points.specs.Restart.{place_of}
 use Rattle.ckr_points.specs.Rows.{RunRow, TableSet, with_run}
 use Rattle.ckr_points.specs.Soundness.{may_come, rewrite_of}
 use Rattle.ckr_points_invariant.proofs.WaitingRuns.{follows-of, tested-run}
-use Rattle.ckr_points_invariant.proofs.Steps.Commits.{IsRunning, alike_within, carried-of, formed_step, in_reach, its_start, kept-behind, laid_so, out_of_outputs}
+use Rattle.ckr_points_invariant.proofs.Steps.Commits.{alike_within, carried-of, formed_step, in_reach, kept-behind, laid_so, out_of_outputs}
 use Rattle.ckr_points_invariant.proofs.Library.Extents.{laid-changed, stands_as}
 use Rattle.ckr_points_invariant.proofs.Holders.Moves.{Among}
 use Rattle.ckr_points_invariant.proofs.Rewrite.Invariant.{have_lengths-same, rewritten-alike, rewritten-long, updated-name, within-next}

@@ -26,13 +26,14 @@ use Rattle.ckr_points.specs.Tables.{after_commit, after_dispositions, after_step
 use Rattle.ckr_points.specs.Follows.{are_lengths, ended_follows, is_in_state, is_running, is_within, lengths_follow, own_step}
 use Rattle.ckr_points.specs.Payload.{carries, commits, is_returned, writes_in}
 use Rattle.ckr_points_invariant.specs.Invariant.{IsHolder, IsAgreed, step_now}
+use Rattle.ckr_points_invariant.specs.RunningSteps.{IsRunning, its_start}
 use Rattle.ckr_points_library.specs.Commit.{output_names}
 use Rattle.ckr_points.specs.Office.{Leg, Office, cut_of, leg_of, library_after, office_after}
 use Rattle.ckr_points.specs.Restart.{after_abnormal, after_ended, after_passed_ended, place_of, step_in}
 use Rattle.ckr_points.specs.Rows.{RunRow, TablesModel, step_of_run}
 use Rattle.ckr_points.specs.Soundness.{may_come}
 use Rattle.ckr_points_invariant.proofs.WaitingRuns.{follows-of, tested-run}
-use Rattle.ckr_points_invariant.proofs.Steps.Commits.{IsRunning, carried-of, its_start}
+use Rattle.ckr_points_invariant.proofs.Steps.Commits.{carried-of}
 use Rattle.ckr_points_invariant.proofs.StepEnd.Invariant.{kept-step_ended}
 use Rattle.ckr_points_invariant.proofs.RunEnd.Invariant.{kept-completed, kept-cut, kept-within}
 use Rattle.ckr_points_invariant.proofs.Holders.Rows.{run-same}

@@ -17,6 +17,7 @@ use Rattle.ckr_points.specs.declared.run.RunState.TheVariants.{Ended as EndedRun
 use Rattle.ckr_points.specs.Tables.{after_dispositions}
 use Rattle.ckr_points.specs.Follows.{is_within, state_number}
 use Rattle.ckr_points_invariant.specs.Invariant.{AreAlike, IsAtPlace, IsHolder, IsAgreed, set_shape, step_now, table_shape}
+use Rattle.ckr_points_invariant.specs.RunningSteps.{IsRunning, its_start}
 use Rattle.ckr_base.proofs.Bools.{bool-cases}
 use Rattle.ckr_points.specs.Marks.{has_passed, without_passed}
 use Rattle.ckr_points.specs.Office.{Leg, Office, is_holder, passed_made}
@@ -24,7 +25,7 @@ use Rattle.ckr_points.specs.Restart.{place_of, step_in}
 use Rattle.ckr_points.specs.Rows.{RunRow, TableSet, step_of_run}
 use Rattle.ckr_points.specs.Soundness.{AreLaidOut}
 use Rattle.ckr_points_invariant.proofs.Library.Likeness.{passed_ended-alike}
-use Rattle.ckr_points_invariant.proofs.Steps.Commits.{IsRunning, found_leg, its_start}
+use Rattle.ckr_points_invariant.proofs.Steps.Commits.{found_leg}
 use Rattle.ckr_points_invariant.proofs.StepEnd.Invariant.{disposed-enters, disposed-inside, disposed-laid, disposed-outside, disposed-passes}
 use Rattle.ckr_points_invariant.proofs.Holders.End.{EndsSo, kept-ends}
 use Rattle.ckr_points_invariant.proofs.Library.Extents.{passed_ended-laid}

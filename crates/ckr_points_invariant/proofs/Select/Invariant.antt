@@ -29,7 +29,7 @@ use Rattle.ckr_points.specs.Office.{Leg, Office, holder_of, is_holder, leg_of, p
 use Rattle.ckr_points.specs.Restart.{place_of}
 use Rattle.ckr_points.specs.Rows.{RunRow, TablesModel, run_of, with_run}
 use Rattle.ckr_points_invariant.proofs.Holders.CommonNames.{holds-turned, without-holds}
-use Rattle.ckr_points_invariant.proofs.Holders.JobNames.{KeepsJobNames, has_ended, one-row-keeps, uses-stay}
+use Rattle.ckr_points_invariant.proofs.Holders.JobNames.{one-row-keeps, uses-stay}
 use Rattle.ckr_points_invariant.proofs.Holders.Rows.{PointsStay, place-stays, queued-is, run-other, run-same}
 use Rattle.ckr_points_invariant.proofs.Holders.SharedSets.{at-left}
 use Rattle.ckr_points_invariant.proofs.Marks.Points.{differs}
@@ -37,7 +37,7 @@ use Rattle.ckr_points_invariant.proofs.Holders.Moves.{Among, standing-is}
 use Rattle.ckr_points_invariant.proofs.Select.Holders.{all_legs, free-of, holder-of, leg_here, leg_there}
 use Rattle.ckr_points_invariant.proofs.Holders.Uses.{holder-leaves, holder-uses, names-used, none-exclusive, shared-left}
 use Rattle.ckr_points_invariant.proofs.Steps.Walks.{at-before}
-use Rattle.ckr_points_invariant.specs.JobNames.{HasUses, IsKin, keeps_points}
+use Rattle.ckr_points_invariant.specs.JobNames.{HasUses, IsKin, KeepsJobNames, has_ended, keeps_points}
 
 -- a step's names are the job's
 among-get : (root place : ℕ) (steps : List OwnedStep) (owned : OwnedStep) (name : Name) → slice_get steps place ≡ Some owned → is_among (names_of root owned) name ≡ true → is_among (names_of_steps root steps) name ≡ true

@@ -26,12 +26,13 @@ use Rattle.ckr_meaning.proofs.JobEnds.{all_go_on-step, go_on_unless}
 use Rattle.ckr_meaning.proofs.Walks.{walk_before-next}
 use Rattle.ckr_points.specs.Payload.{is_formed, is_formed_step}
 use Rattle.ckr_points_invariant.specs.Invariant.{AreBegun, HasBegun, IsReached, library_at_stamp}
+use Rattle.ckr_points_invariant.specs.RunningSteps.{start_of}
 use Rattle.ckr_points.specs.Office.{Leg, Office, leg_of}
 use Rattle.ckr_points.specs.Soundness.{stamped_writes}
 use Rattle.ckr_points_invariant.proofs.Holders.Rows.{step-all}
 use Rattle.ckr_points_invariant.proofs.Marks.Points.{differs}
 use Rattle.ckr_points_invariant.proofs.Stamps.Steps.{IsOfStep, Outcome, opened-outcome, within-outcome}
-use Rattle.ckr_points_invariant.proofs.Steps.Walks.{at-before, at-opened, at-within, start_at-of, start_of}
+use Rattle.ckr_points_invariant.proofs.Steps.Walks.{at-before, at-opened, at-within, start_at-of}
 
 -- ---- dispositions and the end leave records and stamps
 

@@ -30,13 +30,14 @@ use Rattle.ckr_points.specs.Tables.{after_commit, after_held, after_rewritten, a
 use Rattle.ckr_points.specs.Follows.{ended_follows, is_in_state, is_running, is_within, lengths_follow, own_step}
 use Rattle.ckr_points.specs.Payload.{carries, carries_lengths, commits, rewrites_nothing, writes_in}
 use Rattle.ckr_points_invariant.specs.Invariant.{AreBegun, IsKept, AreStamped, IsAtPlace, HasBegun, IsHolder, IsMarkedShort, IsReached, MarksHold, step_now}
+use Rattle.ckr_points_invariant.specs.RunningSteps.{IsRunning, its_start, start_of}
 use Rattle.ckr_points.specs.Office.{Leg, Office, cut_of, leg_of, library_after, office_after}
 use Rattle.ckr_points.specs.Restart.{after_ended, after_event, by_step, place_of, step_in}
 use Rattle.ckr_points.specs.Rows.{RunRow, TablesModel, run_of, with_run}
 use Rattle.ckr_points.specs.Soundness.{marks_of_row, may_come}
 use Rattle.ckr_points_invariant.proofs.Stamps.Beginnings.{begun-as, disposed-from, ended-from}
 use Rattle.ckr_points_invariant.proofs.WaitingRuns.{follows-of, tested-run}
-use Rattle.ckr_points_invariant.proofs.Steps.Commits.{IsRunning, carried-of, found_leg, its_start, under_way}
+use Rattle.ckr_points_invariant.proofs.Steps.Commits.{carried-of, found_leg, under_way}
 use Rattle.ckr_points_invariant.proofs.Library.Entries.{at-taken_over}
 use Rattle.ckr_points_invariant.proofs.Marks.Changes.{Entries, Points, fewer, holds-run, holds-sets, points-rewritten}
 use Rattle.ckr_points_invariant.proofs.Points.Rows as rows
@@ -44,7 +45,7 @@ use Rattle.ckr_points_invariant.proofs.Points.Sets as sets
 use Rattle.ckr_points_invariant.proofs.Steps.Events.{led-by, on-holds, running-holds, running-within, step-by}
 use Rattle.ckr_points_invariant.proofs.Stamps.Tables.{reached-now, stamped-on}
 use Rattle.ckr_points_invariant.proofs.Start.Event.{running-so}
-use Rattle.ckr_points_invariant.proofs.Steps.Walks.{at-before, at-within, cut-before, cut-opened, cut-within, run-behind, run-cut, start_at-of, start_of}
+use Rattle.ckr_points_invariant.proofs.Steps.Walks.{at-before, at-within, cut-before, cut-opened, cut-within, run-behind, run-cut, start_at-of}
 
 -- ---- the marks of the tables
 

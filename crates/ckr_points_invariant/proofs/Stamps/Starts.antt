@@ -25,6 +25,7 @@ use Rattle.ckr_points.specs.Tables.{after_started, start_point}
 use Rattle.ckr_points.specs.Follows.{is_in_state, may_hold}
 use Rattle.ckr_points.specs.Payload.{carries}
 use Rattle.ckr_points_invariant.specs.Invariant.{AreBegun, IsKept, AreStamped, IsAtPlace, HasBegun, IsMarkedShort, IsReached, IsShortMark, step_now, table_shape}
+use Rattle.ckr_points_invariant.specs.RunningSteps.{start_of}
 use Rattle.ckr_points.specs.Marks.{present_of}
 use Rattle.ckr_points.specs.Office.{Leg, Office, leg_of, no_office, office_after}
 use Rattle.ckr_points.specs.Rows.{RunRow, StartPoint, TableSet, run_of}
@@ -36,7 +37,7 @@ use Rattle.ckr_points_invariant.proofs.Marks.Changes.{holds-run, holds-sets, mad
 use Rattle.ckr_points_invariant.proofs.Stamps.Tables.{alike_set, begun-legs, led-by-begun, marks-short, marks-weaker, short-legs, short-of, stamped-on, table-short}
 use Rattle.ckr_points_invariant.proofs.Start.Invariant as starting
 use Rattle.ckr_points_invariant.proofs.Start.Event.{StartsNow, by-start}
-use Rattle.ckr_points_invariant.proofs.Steps.Walks.{at-opened, start_at-of, start_of}
+use Rattle.ckr_points_invariant.proofs.Steps.Walks.{at-opened, start_at-of}
 
 -- ---- selected
 

@@ -23,12 +23,13 @@ use Rattle.ckr_points.specs.Tables.{after_held, after_started}
 use Rattle.ckr_points.specs.Follows.{are_items, are_made_clear, is_part_whole, made_dds, is_empty, is_in_state, is_running, is_within, lengths_follow, may_start, started_follows}
 use Rattle.ckr_points.specs.Payload.{carries, commits, writes_in}
 use Rattle.ckr_points_invariant.specs.Invariant.{IsHolder, IsAgreed, step_now}
+use Rattle.ckr_points_invariant.specs.RunningSteps.{IsRunning}
 use Rattle.ckr_points.specs.Office.{Leg, Office, is_holder, office_after}
 use Rattle.ckr_points.specs.Restart.{by_step, place_of}
 use Rattle.ckr_points.specs.Rows.{RunRow, TablesModel, run_of, standing_of, step_of_run, table_ways}
 use Rattle.ckr_points.specs.Soundness.{may_come}
 use Rattle.ckr_points_invariant.proofs.WaitingRuns.{follows-of, tested-run}
-use Rattle.ckr_points_invariant.proofs.Steps.Commits.{IsRunning, carried-of}
+use Rattle.ckr_points_invariant.proofs.Steps.Commits.{carried-of}
 use Rattle.ckr_points_invariant.proofs.Steps.Events.{kept-commit, led-by, on-holds, running-holds, running-within, step-by, within-is}
 use Rattle.ckr_points_invariant.proofs.Start.Invariant.{kept-started}
 

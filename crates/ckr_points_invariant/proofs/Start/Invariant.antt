@@ -20,12 +20,12 @@ use Rattle.ckr_volumes.specs.declared.layout.Layout.{Layout}
 use Rattle.ckr_points.specs.Tables.{made_tables, own_made, start_point}
 use Rattle.ckr_points.specs.Follows.{are_made_clear}
 use Rattle.ckr_points_invariant.specs.Invariant.{AreAlike, IsAtPlace, IsHolder, IsAgreed, IsUnderWay, set_shape, step_now, table_shape}
+use Rattle.ckr_points_invariant.specs.RunningSteps.{its_start}
 use Rattle.ckr_points.specs.Marks.{is_marked_absent, made_names, marks_now, own_names, with_point}
 use Rattle.ckr_points.specs.Office.{Leg, Office, is_holder}
 use Rattle.ckr_points.specs.Restart.{place_of, step_in}
 use Rattle.ckr_points.specs.Rows.{RunRow, StartPoint, TableSet, run_of, standing_of, step_of_run, table_ways}
 use Rattle.ckr_points_invariant.proofs.Library.Likeness.{each-known, known-alike, made_all-alike, made_all-apart, none-alike, opened_all-alike, opened_all-apart, placed-apart, placed_in-known}
-use Rattle.ckr_points_invariant.proofs.Steps.Commits.{its_start}
 use Rattle.ckr_points_invariant.proofs.Library.Extents.{made_all-laid}
 use Rattle.ckr_points_invariant.proofs.Holders.Rows.{run-other, run-same}
 use Rattle.ckr_points_invariant.proofs.Marks.Points.{absent-now, among-filter, point_at-new, point_at-other, carried-taken}

@@ -25,8 +25,9 @@ use Rattle.ckr_points_invariant.proofs.Start.Event.{running-so}
 use Rattle.ckr_points_invariant.proofs.StartedSteps.Kin.{keeps-stays, kin-next, kin-stays}
 use Rattle.ckr_points_invariant.proofs.StartedSteps.ReturnCodes.{short-take, walk-codes}
 use Rattle.ckr_points_invariant.proofs.StepEnd.Invariant.{made_is}
-use Rattle.ckr_points_invariant.proofs.Steps.Commits.{IsRunning, under_way}
+use Rattle.ckr_points_invariant.proofs.Steps.Commits.{under_way}
 use Rattle.ckr_points_invariant.specs.JobNames.{keeps_points}
+use Rattle.ckr_points_invariant.specs.RunningSteps.{IsRunning}
 
 -- ---- where the points of the owners stay
 

@@ -12,9 +12,9 @@ use Rattle.ckr_points.specs.Office.{Office, no_office, office_after}
 use Rattle.ckr_points.specs.Rows.{run_of}
 use Rattle.ckr_points_invariant.specs.Invariant.{IsKept}
 use Rattle.ckr_points_invariant.specs.Points.{ArePointed}
-use Rattle.ckr_points_invariant.proofs.Continuations.Tests.{continues}
 use Rattle.ckr_points_invariant.specs.Readiness.{AreReady}
 use Rattle.ckr_points_invariant.specs.StartedSteps.{AreBegunSteps}
+use Rattle.ckr_points_invariant.specs.EarlierRuns.{continues}
 use Rattle.ckr_points_invariant.proofs.StartedSteps.RunEvents.{begun-allocation, begun-cancelled, begun-coded, begun-completed, begun-denied, begun-purged, begun-released, begun-selected, begun-submitted}
 use Rattle.ckr_points_invariant.proofs.StartedSteps.StepEvents.{begun-checkpointed, begun-entry, begun-held, begun-rewritten, begun-start, begun-started, begun-step_end}
 

@@ -22,20 +22,21 @@ use Rattle.ckr_points.specs.declared.run.RunState.TheVariants.{On}
 use Rattle.ckr_points.specs.Tables.{after_dispositions, earlier_made, own_made, run_disposal, run_disposals, step_made, steps_made}
 use Rattle.ckr_points.specs.Follows.{is_in_state}
 use Rattle.ckr_points_invariant.specs.Invariant.{AreAlike, HasMarkOf, IsAtPlace, IsAgreed, IsUnderWay, set_shape, step_now, table_shape}
+use Rattle.ckr_points_invariant.specs.RunningSteps.{IsRunning, its_start, start_of}
 use Rattle.ckr_points.specs.Marks.{carried_marks, mark_at, own_names}
 use Rattle.ckr_points.specs.Office.{Leg, Office, is_holder, passed_made}
 use Rattle.ckr_points.specs.Restart.{place_of}
 use Rattle.ckr_points.specs.Rows.{RunRow, TableSet, TablesModel, standing_of, table_ways}
 use Rattle.ckr_points.specs.Soundness.{AreLaidOut}
 use Rattle.ckr_points_invariant.proofs.Library.Likeness.{disposed_all-alike, disposed_all-passed, placed-apart}
-use Rattle.ckr_points_invariant.proofs.Steps.Commits.{IsRunning, alike_within, found_leg, has_next, in_reach, its_start, now, place_so, under_way}
+use Rattle.ckr_points_invariant.proofs.Steps.Commits.{alike_within, found_leg, has_next, in_reach, now, place_so, under_way}
 use Rattle.ckr_points_invariant.proofs.StepEnd.Disposals.{disposals-apart, disposals-same, names_made-placed}
 use Rattle.ckr_points_invariant.proofs.Library.Extents.{disposed_all-laid}
 use Rattle.ckr_points_invariant.proofs.Marks.Points.{own_made-out}
 use Rattle.ckr_points_invariant.proofs.Holders.Moves.{Among, kept-goes_on, moved}
 use Rattle.ckr_points_invariant.proofs.Library.PassedList.{apart-unmade, disposed-apart, disposed-made}
 use Rattle.ckr_points_invariant.proofs.Holders.Places.{HasNext, lent-same, other-out, own_made-is, owners-same, steps_made-same}
-use Rattle.ckr_points_invariant.proofs.Steps.Walks.{at-before, at-within, goes_on-behind, start_of, step_walked-earlier, step_walked-rcs, step_walked-standing, walk_before-behind}
+use Rattle.ckr_points_invariant.proofs.Steps.Walks.{at-before, at-within, goes_on-behind, step_walked-earlier, step_walked-rcs, step_walked-standing, walk_before-behind}
 
 steps_made-append : (tables : TablesModel) (row : RunRow) (first : ℕ) (steps : List OwnedStep) (owned : OwnedStep) → steps_made tables row first (steps ++ owned ∷ []) ≡ steps_made tables row first steps ++ (step_made tables row owned (first + length steps) ++ [])
 steps_made-append tables row first [] owned = ap (λ n. step_made tables row owned n ++ []) (let e : first ≡ first + 0 = omega arith in e)

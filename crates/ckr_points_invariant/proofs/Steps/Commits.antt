@@ -18,6 +18,7 @@ use Rattle.ckr_points.specs.Tables.{committed, own_made}
 use Rattle.ckr_points.specs.Follows.{are_lengths, is_within}
 use Rattle.ckr_points.specs.Payload.{carries_lengths, commits, is_formed_step, of_start, rewrites_nothing, start_in_office, writes_in}
 use Rattle.ckr_points_invariant.specs.Invariant.{AreAlike, IsAgreed, IsAtPlace, IsHolder, IsUnderWay, IsWithinStep, set_shape, step_now, table_shape}
+use Rattle.ckr_points_invariant.specs.RunningSteps.{IsRunning, its_start}
 use Rattle.ckr_points_library.specs.Commit.{output_names}
 use Rattle.ckr_points.specs.Office.{Leg, Office, is_holder, leg_of}
 use Rattle.ckr_points.specs.Restart.{place_of, step_in}
@@ -27,18 +28,8 @@ use Rattle.ckr_points_invariant.proofs.Library.Extents.{committed-laid, fit-leng
 use Rattle.ckr_points_invariant.proofs.Holders.Rows.{run-other, run-same, step-all}
 use Rattle.ckr_points_invariant.proofs.Holders.Moves.{Among, kept-goes_on, moved, standing-is}
 use Rattle.ckr_points_invariant.proofs.Holders.Places.{HasNext, IsSameRun, outputs-among, place-next}
-use Rattle.ckr_points_invariant.proofs.Steps.Walks.{at-within, start_at-of, start_of}
+use Rattle.ckr_points_invariant.proofs.Steps.Walks.{at-within, start_at-of}
 use Rattle.ckr_points_invariant.proofs.Writes.Likeness.{commit-alike, committed-other}
-
--- a holder in a step, behind so many writes
-pub record IsRunning (office : Office) (number : ℕ) (row : RunRow) (leg : Leg) (owned : OwnedStep) (step writes : ℕ) : Type 0 where
-  pub holder : IsHolder office number row leg
-  pub stands : place_of row ≡ Within step writes
-  pub found : step_of_run row step ≡ Some owned
-
--- the step as its job starts it
-abbrev pub its_start : Leg → OwnedStep → ℕ → StepStart
-its_start leg owned step = start_of leg.job leg.start step owned
 
 -- what an event carries is of the run's step as it starts
 pub carried-of : (layout : Layout) (office : Office) (number : ℕ) (row : RunRow) (leg : Leg) (owned : OwnedStep) (step : ℕ) (test : RunRow → StepStart → Bool) → IsAgreed layout office → IsHolder office number row leg → step_now row ≡ step → step_of_run row step ≡ Some owned → of_start office number test ≡ true → test row (its_start leg owned step) ≡ true

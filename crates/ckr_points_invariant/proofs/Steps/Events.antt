@@ -16,13 +16,14 @@ use Rattle.ckr_points.specs.Tables.{committed, own_made, point_rewritten, row_re
 use Rattle.ckr_points.specs.Follows.{are_lengths, is_in_state, is_running, is_within, lengths_follow, state_number}
 use Rattle.ckr_points.specs.Payload.{commits, writes_in}
 use Rattle.ckr_points_invariant.specs.Invariant.{IsAtPlace, IsHolder, IsAgreed, step_now}
+use Rattle.ckr_points_invariant.specs.RunningSteps.{IsRunning, its_start}
 use Rattle.ckr_points_library.specs.Commit.{output_names}
 use Rattle.ckr_points.specs.Marks.{carried_marks, made_names, point_at}
 use Rattle.ckr_points.specs.Office.{Leg, Office, is_holder, leg_of}
 use Rattle.ckr_points.specs.Restart.{place_of, step_in}
 use Rattle.ckr_points.specs.Rows.{RunRow, StartPoint, TablesModel, run_of, step_of_run, with_run}
 use Rattle.ckr_points_invariant.proofs.Marks.Points.{carried-same}
-use Rattle.ckr_points_invariant.proofs.Steps.Commits.{GoesBehind, IsRunning, its_start, kept-committed}
+use Rattle.ckr_points_invariant.proofs.Steps.Commits.{GoesBehind, kept-committed}
 
 -- ---- states and places
 

@@ -4,6 +4,7 @@ use Rattle.std.specs.Prelude.{slice_get}
 use Rattle.std.specs.Option.{option_map, option_map_or}
 use Rattle.std.proofs.lemmas.Bool.{false≢true}
 use Rattle.ckr_base.specs.declared.programs.Finish.TheVariants.{Returned}
+use Rattle.ckr_points_invariant.specs.RunningSteps.{start_of}
 use Rattle.ckr_base.proofs.Options.{some-not-none}
 use Rattle.ckr_base.proofs.Sequences.{length-take, take-next}
 use Rattle.ckr_library.specs.NameMaps.{Name, entry_at}
@@ -20,10 +21,6 @@ use Rattle.ckr_meaning.proofs.Walks.{walk_before-next}
 use Rattle.ckr_points.specs.Restart.{step_in}
 
 -- ---- one step more
-
--- the step as it is about to start
-abbrev pub start_of : Effective → Library → ℕ → OwnedStep → StepStart
-start_of job library number owned = start_in job.root number owned (walk_before job library number)
 
 pub start_at-of : (job : Effective) (library : Library) (number : ℕ) (owned : OwnedStep) → step_at job number ≡ Some owned → start_at job library number ≡ Some (start_of job library number owned)
 unfolding start_at

@@ -38,12 +38,13 @@ use Rattle.ckr_points_invariant.proofs.Marks.Points.{among-filter}
 use Rattle.ckr_points_invariant.proofs.Readiness.Checkpoints as checks
 use Rattle.ckr_points_invariant.proofs.Readiness.Runs.{kept-entry}
 use Rattle.ckr_points_invariant.proofs.Start.Openings.{opened-none}
-use Rattle.ckr_points_invariant.proofs.Steps.Commits.{IsRunning, found_leg, its_start, place_so, under_way}
+use Rattle.ckr_points_invariant.proofs.Steps.Commits.{found_leg, place_so, under_way}
 use Rattle.ckr_points_invariant.proofs.Steps.Walks.{at-opened, start_at-of}
 use Rattle.ckr_points_invariant.proofs.WrittenEntries.Growth.{long-changed, long-committed}
 use Rattle.ckr_points_invariant.proofs.WrittenEntries.Offices.{IsGrown}
 use Rattle.ckr_points_invariant.proofs.WrittenEntries.Sets.{EachHas, changed-was}
 use Rattle.ckr_points_invariant.specs.Restorability.{HasPoint}
+use Rattle.ckr_points_invariant.specs.RunningSteps.{IsRunning, its_start}
 
 -- an entry of some bytes takes room
 pub takes-room : (bytes : ℕ) → 1 ≤ bytes → 1 ≤ records_of bytes

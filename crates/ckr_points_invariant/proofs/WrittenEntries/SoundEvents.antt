@@ -10,10 +10,10 @@ use Rattle.ckr_volumes.specs.declared.layout.Layout.{Layout}
 use Rattle.ckr_points.specs.Events.{IsNext}
 use Rattle.ckr_points.specs.Office.{Office, no_office, office_after}
 use Rattle.ckr_points_invariant.specs.Invariant.{IsKept}
-use Rattle.ckr_points_invariant.proofs.Continuations.Tests.{continues}
 use Rattle.ckr_points_invariant.specs.Points.{ArePointed}
 use Rattle.ckr_points_invariant.specs.Readiness.{AreReady}
 use Rattle.ckr_points_invariant.specs.WrittenEntries.{AreWrittenEntries}
+use Rattle.ckr_points_invariant.specs.EarlierRuns.{continues}
 use Rattle.ckr_points_invariant.proofs.WrittenEntries.Restarts.{written-entry, written-start}
 use Rattle.ckr_points_invariant.proofs.WrittenEntries.RunEvents.{written-allocation, written-cancelled, written-coded, written-completed, written-denied, written-purged, written-released, written-selected, written-submitted}
 use Rattle.ckr_points_invariant.proofs.WrittenEntries.StepEvents.{written-checkpointed, written-held, written-rewritten, written-started, written-step_end}

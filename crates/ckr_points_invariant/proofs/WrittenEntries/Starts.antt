@@ -25,6 +25,7 @@ use Rattle.ckr_points_invariant.specs.Invariant.{IsAgreed, IsAtPlace, step_now}
 use Rattle.ckr_points_invariant.specs.Points.{ArePointed}
 use Rattle.ckr_points_invariant.specs.Readiness.{AreReady}
 use Rattle.ckr_points_invariant.specs.WrittenEntries.{AreWrittenEntries, HasEntered, HasGrown, HasWrittenEntries, check_set}
+use Rattle.ckr_points_invariant.specs.RunningSteps.{its_start}
 use Rattle.ckr_points_invariant.proofs.Holders.Places.{outputs-among}
 use Rattle.ckr_points_invariant.proofs.Holders.SharedSets.{Unmade}
 use Rattle.ckr_points_invariant.proofs.Library.Likeness.{none-alike}
@@ -36,7 +37,6 @@ use Rattle.ckr_points_invariant.proofs.Start.Event.{StartsNow}
 use Rattle.ckr_points_invariant.proofs.Start.Invariant as starting
 use Rattle.ckr_points_invariant.proofs.Start.Openings.{opened-none}
 use Rattle.ckr_points_invariant.proofs.StepEnd.Disposals.{names_made-placed}
-use Rattle.ckr_points_invariant.proofs.Steps.Commits.{its_start}
 use Rattle.ckr_points_invariant.proofs.WrittenEntries.Entries.{KeepsItsPoints, KeepsStep, entries-through}
 use Rattle.ckr_points_invariant.proofs.WrittenEntries.Offices.{IsGrown, written-moved}
 use Rattle.ckr_points_invariant.proofs.WrittenEntries.Sets.{changed-was, made_all-has, opened_all-has}

@@ -30,6 +30,7 @@ use Rattle.ckr_points_invariant.specs.Invariant.{IsAgreed, IsHolder, step_now}
 use Rattle.ckr_points_invariant.specs.Points.{ArePointed}
 use Rattle.ckr_points_invariant.specs.Readiness.{AreReady, IsCheck}
 use Rattle.ckr_points_invariant.specs.WrittenEntries.{AreWrittenEntries, HasGrown, HasWrittenEntries}
+use Rattle.ckr_points_invariant.specs.RunningSteps.{IsRunning, its_start}
 use Rattle.ckr_points_invariant.proofs.Holders.Rows.{run-other, run-same}
 use Rattle.ckr_points_invariant.proofs.OtherRuns.Sets.{LeavesApart, apart-checkpointed, apart-held, apart-rewritten, apart-started, apart-step_end}
 use Rattle.ckr_points_invariant.proofs.Readiness.Checkpoints.{checked_row, checked_sets}
@@ -39,7 +40,7 @@ use Rattle.ckr_points_invariant.proofs.Readiness.Rows.{changed-to}
 use Rattle.ckr_points_invariant.proofs.Start.Event.{by-start, running-so}
 use Rattle.ckr_points_invariant.proofs.StartedSteps.Runs.{marked-was, marks_at}
 use Rattle.ckr_points_invariant.proofs.StartedSteps.StepEvents.{marks-rewritten}
-use Rattle.ckr_points_invariant.proofs.Steps.Commits.{IsRunning, carried-of, its_start}
+use Rattle.ckr_points_invariant.proofs.Steps.Commits.{carried-of}
 use Rattle.ckr_points_invariant.proofs.Steps.Events.{led-by, on-holds, running-holds, running-within, step-by}
 use Rattle.ckr_points_invariant.proofs.WaitingRuns.{follows-of, tested-run}
 use Rattle.ckr_points_invariant.proofs.WrittenEntries.Checkpoints.{checked-grown, checked-has}

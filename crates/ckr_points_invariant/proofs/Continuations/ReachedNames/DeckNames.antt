@@ -17,13 +17,12 @@ use Rattle.ckr_points.specs.Office.{Leg, Office, passed_made, continued_leg}
 use Rattle.ckr_points.specs.RuleCases.{is_ended}
 use Rattle.ckr_points.specs.Rows.{RunRow, TableSet, run_of}
 use Rattle.ckr_points.proofs.NeededNames.{spliced-from}
-use Rattle.ckr_points_invariant.proofs.Holders.JobNames.{has_ended}
 use Rattle.ckr_points_invariant.proofs.Holders.DeckNames.{deck-named, names-owned}
-use Rattle.ckr_points_invariant.proofs.Continuations.Follows.{MayContinue}
 use Rattle.ckr_points_invariant.proofs.Library.PassedList.{made-without}
 use Rattle.ckr_points_invariant.proofs.Continuations.EarlierRun.{Coming, leg_from, row_then}
 use Rattle.ckr_points_invariant.proofs.Continuations.LostNames.{kept-exists}
-use Rattle.ckr_points_invariant.specs.JobNames.{AreKin, HasUses, IsKin, IsNamedByDeck}
+use Rattle.ckr_points_invariant.specs.JobNames.{AreKin, HasUses, IsKin, IsNamedByDeck, has_ended}
+use Rattle.ckr_points_invariant.specs.EarlierRuns.{MayContinue}
 use Rattle.ckr_points_invariant.proofs.Continuations.ReachedNames.Statements.{step-names-same}
 use Rattle.ckr_points_invariant.proofs.Continuations.ReachedNames.OwnSteps.{among-at, among-rest, step-either}
 

@@ -14,13 +14,13 @@ use Rattle.ckr_points.specs.RuleCases.{is_ended}
 use Rattle.ckr_points_invariant.specs.Invariant.{IsHolder, IsKept}
 use Rattle.ckr_points_invariant.specs.Points.{ArePointed}
 use Rattle.ckr_points_invariant.specs.StartedSteps.{AreBegunSteps}
-use Rattle.ckr_points_invariant.proofs.Continuations.Follows.{MayContinue}
 use Rattle.ckr_points_invariant.proofs.Continuations.EarlierRun.{Coming, leg_from, row_then, sets_then}
-use Rattle.ckr_points_invariant.specs.JobNames.{AreKin, HasUses}
+use Rattle.ckr_points_invariant.specs.JobNames.{AreKin, HasUses, KeepsJobNames}
+use Rattle.ckr_points_invariant.specs.EarlierRuns.{MayContinue}
 use Rattle.ckr_points_invariant.proofs.Continuations.Agreement as agreement
 use Rattle.ckr_points_invariant.proofs.Continuations.Offices as offices
 use Rattle.ckr_points_invariant.proofs.Continuations.ReachedNames.DeckNames.{reach-then}
-use Rattle.ckr_points_invariant.proofs.Holders.JobNames.{KeepsJobNames, one-row-keeps, uses-stay}
+use Rattle.ckr_points_invariant.proofs.Holders.JobNames.{one-row-keeps, uses-stay}
 use Rattle.ckr_points_invariant.proofs.Holders.Rows.{queued-is}
 
 module _ (layout : Layout) (now : Office) (job initiator before step : ℕ) (id : Option Name) (its : MayContinue layout now.tables job initiator (suc before) step id) (start : Library) (reach : List Name)

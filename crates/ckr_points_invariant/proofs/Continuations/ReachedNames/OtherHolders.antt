@@ -19,12 +19,11 @@ use Rattle.ckr_points.specs.RuleCases.{is_ended}
 use Rattle.ckr_points.specs.Rows.{RunRow, TableSet, TablesModel, run_of}
 use Rattle.ckr_uses.specs.Uses.{holds, uses_of}
 use Rattle.ckr_points_invariant.specs.Invariant.{AreOrderly, IsAgreed, IsHolder}
-use Rattle.ckr_points_invariant.specs.JobNames.{AreKin, HasUses, IsKin, IsNamedByDeck}
+use Rattle.ckr_points_invariant.specs.JobNames.{AreKin, HasUses, IsKin, IsNamedByDeck, has_ended}
+use Rattle.ckr_points_invariant.specs.EarlierRuns.{MayContinue}
 use Rattle.ckr_points_invariant.proofs.Continuations.EarlierRun.{Coming, leg_from, row_then}
-use Rattle.ckr_points_invariant.proofs.Continuations.Follows.{MayContinue}
 use Rattle.ckr_points_invariant.proofs.Continuations.ReachedNames.DeckNames.{kin-then, reached-named}
 use Rattle.ckr_points_invariant.proofs.Holders.CommonNames.{restart-holds, without-holds}
-use Rattle.ckr_points_invariant.proofs.Holders.JobNames.{has_ended}
 use Rattle.ckr_points_invariant.proofs.Holders.Rows.{holder-ended, queued-is}
 
 row-all : (all : RunRow → Bool) (tables : TablesModel) (number : ℕ) (row : RunRow) → list_all all tables.runs ≡ true → run_of tables number ≡ Some row → all row ≡ true

@@ -21,7 +21,7 @@ use Rattle.ckr_points_invariant.specs.Points.{ArePointed}
 use Rattle.ckr_points_invariant.specs.Readiness.{AreReady, IsReady}
 use Rattle.ckr_points_invariant.specs.StartedSteps.{AreBegunSteps}
 use Rattle.ckr_points_invariant.specs.WrittenEntries.{AreWrittenEntries}
-use Rattle.ckr_points_invariant.proofs.Continuations.Follows.{MayContinue}
+use Rattle.ckr_points_invariant.specs.EarlierRuns.{MayContinue}
 use Rattle.ckr_points_invariant.proofs.Continuations.Freshness.{DeterminesMaking}
 use Rattle.ckr_points_invariant.proofs.Continuations.EarlierRun.{Coming, IsContinued, leg_from, row_then, sets_then}
 use Rattle.ckr_points_invariant.proofs.WrittenEntries.Offices.{IsGrown}

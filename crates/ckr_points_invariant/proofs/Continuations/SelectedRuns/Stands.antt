@@ -23,10 +23,10 @@ use Rattle.ckr_points_invariant.specs.Points.{ArePointed}
 use Rattle.ckr_points_invariant.specs.Restorability.{StandsAt}
 use Rattle.ckr_points_invariant.specs.StartedSteps.{AreBegunSteps}
 use Rattle.ckr_points_invariant.specs.WrittenEntries.{AreWrittenEntries}
+use Rattle.ckr_points_invariant.specs.EarlierRuns.{MayContinue}
 use Rattle.ckr_points_invariant.proofs.Continuations.Agreement as agreement
 use Rattle.ckr_points_invariant.proofs.Continuations.Continued.{agrees-continued}
 use Rattle.ckr_points_invariant.proofs.Continuations.EarlierRun.{Coming, IsContinued, leg_from, row_then, sets_then}
-use Rattle.ckr_points_invariant.proofs.Continuations.Follows.{MayContinue}
 use Rattle.ckr_points_invariant.proofs.Continuations.Fronts.{place-passed}
 use Rattle.ckr_points_invariant.proofs.Continuations.Places.{comes-stands, most}
 use Rattle.ckr_points_invariant.proofs.Continuations.SelectedRuns.Entries as entries

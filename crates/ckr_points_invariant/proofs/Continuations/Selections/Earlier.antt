@@ -19,12 +19,12 @@ use Rattle.ckr_points.specs.Rows.{RunRow, StartPoint, run_of}
 use Rattle.ckr_points_invariant.specs.Invariant.{AreOrderly, IsAgreed}
 use Rattle.ckr_points_invariant.specs.Points.{ArePointed, AreStepPoints, IsPointAt}
 use Rattle.ckr_points_invariant.specs.StartedSteps.{AreBegunSteps, HasBegunSteps}
-use Rattle.ckr_points_invariant.proofs.Continuations.Follows.{MayContinue}
 use Rattle.ckr_points_invariant.proofs.Decks.Events.{row-orderly}
 use Rattle.ckr_points_invariant.proofs.Holders.Rows.{step-all}
 use Rattle.ckr_points_invariant.proofs.Restart.Invariant.{point-covers, point-of, point-says}
 use Rattle.ckr_points_invariant.proofs.Continuations.EarlierRun.{IsEarlier, leg_from}
 use Rattle.ckr_points_invariant.specs.Restorability.{HasPoint}
+use Rattle.ckr_points_invariant.specs.EarlierRuns.{MayContinue}
 
 module _ (layout : Layout) (now : Office) (job initiator before step : ℕ) (id : Option Name) (its : MayContinue layout now.tables job initiator (suc before) step id) (start : Library) (reach : List Name)
     (kept : IsAgreed layout now) (pointed : ArePointed now) (led : leg_of now (suc before) ≡ Some (leg_from its.other start reach)) where

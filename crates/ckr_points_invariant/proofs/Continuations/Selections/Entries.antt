@@ -23,7 +23,7 @@ use Rattle.ckr_points.specs.Rows.{KeptEntry, RunRow, TableSet, run_of}
 use Rattle.ckr_points_invariant.specs.Invariant.{AreAlike, AreOrderly, IsAgreed}
 use Rattle.ckr_points_invariant.specs.Points.{ArePointed, IsPointAt}
 use Rattle.ckr_points_invariant.specs.StartedSteps.{AreBegunSteps, start_by}
-use Rattle.ckr_points_invariant.proofs.Continuations.Follows.{MayContinue, after-selected, fresh-entry}
+use Rattle.ckr_points_invariant.proofs.Continuations.Follows.{after-selected, fresh-entry}
 use Rattle.ckr_points_invariant.proofs.Continuations.Freshness.{DeterminesMaking}
 use Rattle.ckr_points_invariant.proofs.Continuations.Needed.{needed-entry}
 use Rattle.ckr_points_invariant.proofs.Marks.Points.{among-filter}
@@ -32,10 +32,10 @@ use Rattle.ckr_points_invariant.proofs.Continuations.EarlierRun.{Coming, IsConti
 use Rattle.ckr_points.specs.Tables.{fresh_effect}
 use Rattle.ckr_points_invariant.specs.Points.{AreEntryPoints}
 use Rattle.ckr_points_invariant.specs.WrittenEntries.{AreWrittenEntries, IsWrittenEntry}
-use Rattle.ckr_points_invariant.proofs.Continuations.Follows.{IsEntryOf}
 use Rattle.ckr_points_invariant.proofs.Continuations.WrittenEntries.Marks.{kept-so}
 use Rattle.ckr_points_invariant.proofs.Continuations.Selections.Earlier as earlier
 use Rattle.ckr_points_invariant.specs.Restorability.{HasPoint}
+use Rattle.ckr_points_invariant.specs.EarlierRuns.{IsEntryOf, MayContinue}
 
 module _ (layout : Layout) (now : Office) (job initiator before step : ℕ) (id : Name) (its : MayContinue layout now.tables job initiator (suc before) step (Some id)) (start : Library) (reach : List Name)
     (kept : IsAgreed layout now) (pointed : ArePointed now) (led : leg_of now (suc before) ≡ Some (leg_from its.other start reach))

@@ -18,7 +18,7 @@ use Rattle.ckr_points.specs.Rows.{RunRow}
 use Rattle.ckr_points_invariant.specs.Invariant.{AreAlike, AreOrderly, IsAgreed}
 use Rattle.ckr_points_invariant.specs.Points.{ArePointed}
 use Rattle.ckr_points_invariant.specs.StartedSteps.{AreBegunSteps}
-use Rattle.ckr_points_invariant.proofs.Continuations.Follows.{MayContinue, after-selected, fresh-start}
+use Rattle.ckr_points_invariant.proofs.Continuations.Follows.{after-selected, fresh-start}
 use Rattle.ckr_points_invariant.proofs.Continuations.Freshness.{DeterminesMaking}
 use Rattle.ckr_points_invariant.proofs.Continuations.Needed.{needed-start}
 use Rattle.ckr_points_invariant.proofs.Marks.Points.{among-filter}
@@ -34,10 +34,12 @@ use Rattle.ckr_meaning.specs.StepRun.{placed_at}
 use Rattle.ckr_points.specs.Payload.{is_orderly_dd}
 use Rattle.ckr_points_invariant.specs.Invariant.{IsMarkOf}
 use Rattle.ckr_points_invariant.proofs.Start.Openings.{opened-none}
-use Rattle.ckr_points_invariant.proofs.Steps.Walks.{at-opened, start_of}
+use Rattle.ckr_points_invariant.proofs.Steps.Walks.{at-opened}
 use Rattle.ckr_points_invariant.proofs.Continuations.SysoutNames.{step-sysout, sysout-listed}
 use Rattle.ckr_points_invariant.proofs.Continuations.Selections.Earlier as earlier
 use Rattle.ckr_points_invariant.specs.Restorability.{HasPoint}
+use Rattle.ckr_points_invariant.specs.EarlierRuns.{MayContinue}
+use Rattle.ckr_points_invariant.specs.RunningSteps.{start_of}
 
 module _ (layout : Layout) (now : Office) (job initiator before step : ℕ) (its : MayContinue layout now.tables job initiator (suc before) step None) (start : Library) (reach : List Name)
     (kept : IsAgreed layout now) (orderly : AreOrderly now.tables) (begun : AreBegunSteps now) (pointed : ArePointed now) (led : leg_of now (suc before) ≡ Some (leg_from its.other start reach))

@@ -25,11 +25,12 @@ use Rattle.ckr_points.specs.Payload.{is_formed, is_formed_step}
 use Rattle.ckr_points.specs.Restart.{step_in}
 use Rattle.ckr_points.specs.Soundness.{stamped_writes}
 use Rattle.ckr_points_invariant.specs.Invariant.{AreBegun, HasBegun, IsReached}
+use Rattle.ckr_points_invariant.specs.RunningSteps.{start_of}
 use Rattle.ckr_points_invariant.proofs.Holders.Rows.{step-all}
 use Rattle.ckr_points_invariant.proofs.Marks.Points.{differs}
 use Rattle.ckr_points_invariant.proofs.Stamps.Beginnings.{begun-as, disposed-from}
 use Rattle.ckr_points_invariant.proofs.Stamps.Steps.{IsOfStep, Outcome, opened-outcome, within-outcome}
-use Rattle.ckr_points_invariant.proofs.Steps.Walks.{at-before, at-opened, at-within, start_at-of, start_of}
+use Rattle.ckr_points_invariant.proofs.Steps.Walks.{at-before, at-opened, at-within, start_at-of}
 
 -- ---- steps that go on
 
