@@ -7,8 +7,8 @@ use Rattle.ckr_base.proofs.Bools.{and-first, and-second}
 use Rattle.ckr_library.specs.declared.fronts.Front.{Front}
 use Rattle.ckr_library.specs.declared.spread.Span.{Span}
 use Rattle.ckr_library.specs.Places.{lead}
-use Rattle.ckr_library.specs.Spread.{is_before, is_on, is_outside, is_first, rises}
-use Rattle.ckr_library.specs.Fronts.{end_of, fresh, front_on, with_span, front_after, front_of, begins_before}
+use Rattle.ckr_library.specs.Spread.{is_before, is_clear, is_first, is_on, rises, span_end}
+use Rattle.ckr_library.specs.Fronts.{fresh, front_on, with_span, front_after, front_of, begins_before}
 use Rattle.ckr_library.proofs.Filings.{before_itself, true_not}
 use Rattle.ckr_library.proofs.FrontVolumes.{BeginsOn, begins-behind, front_on-itself, front_on-other, front_on-volume, front_after-volume, with_span-volume}
 
@@ -17,7 +17,7 @@ module _ (volume start bytes : ℕ) where
   begins = begins_before volume (start + bytes)
 
   abbrev clear : Span → Bool
-  clear = is_outside start bytes
+  clear = is_clear start bytes
 
   -- the front of the volume reaches no further than the start
   abbrev stops : Front → Bool
@@ -40,7 +40,7 @@ module _ (volume start bytes : ℕ) where
   with_span-stops span front is on before =
       ap (λ (f : Front). nat_le f.reach start) (front_on-itself volume (with_span span front) (with_span-volume span front (is ∙ sym on) ∙ on))
       ∙ (elim (span.bytes == 0) as
-      (λ b. (nat_le (cond b front (record { volume = span.volume; reach = max front.reach (end_of span); packed = front.packed && nat_le span.start front.reach })).reach start)
+      (λ b. (nat_le (cond b front (record { volume = span.volume; reach = max front.reach (span_end span); packed = front.packed && nat_le span.start front.reach })).reach start)
       ≡ ((b || (nat_le (span.start + span.bytes) start || nat_le (start + bytes) span.start)) && nat_le front.reach start)) [
         | true ↦ refl
         | false ↦ reaches front.reach span on before

@@ -5,8 +5,8 @@ use Rattle.std.proofs.lemmas.Bool.{not-true, eqb-true}
 use Rattle.ckr_base.proofs.Bools.{and-first}
 use Rattle.ckr_library.specs.declared.fronts.Front.{Front}
 use Rattle.ckr_library.specs.declared.spread.Span.{Span}
-use Rattle.ckr_library.specs.Spread.{is_first}
-use Rattle.ckr_library.specs.Fronts.{end_of, fresh, front_on, with_span, front_after}
+use Rattle.ckr_library.specs.Spread.{is_first, span_end}
+use Rattle.ckr_library.specs.Fronts.{fresh, front_on, with_span, front_after}
 use Rattle.ckr_library.proofs.Filings.{volumes_rise}
 
 -- the first span lies on this volume or on a higher one
@@ -26,7 +26,7 @@ front_on-volume volume front =
 pub with_span-volume : (span : Span) (front : Front) → front.volume ≡ span.volume → (with_span span front).volume ≡ span.volume
 with_span-volume span front is =
     elim (span.bytes == 0) as
-    (λ b. (cond b front (record { volume = span.volume; reach = max front.reach (end_of span); packed = front.packed && nat_le span.start front.reach })).volume ≡ span.volume) [
+    (λ b. (cond b front (record { volume = span.volume; reach = max front.reach (span_end span); packed = front.packed && nat_le span.start front.reach })).volume ≡ span.volume) [
       | true ↦ is
       | false ↦ refl
     ]

@@ -7,8 +7,8 @@ use Rattle.ckr_base.proofs.Bools.{and-first, and-second, true-not-false}
 use Rattle.ckr_library.specs.declared.fronts.Front.{Front}
 use Rattle.ckr_library.specs.declared.spread.Span.{Span}
 use Rattle.ckr_library.specs.Places.{lead}
-use Rattle.ckr_library.specs.Spread.{is_on, is_below, is_at_most, packed_to, behind_packed, rises}
-use Rattle.ckr_library.specs.Fronts.{end_of, fresh, front_on, with_span, front_after, fronts_from, front_of, is_packed_on, AreSpread}
+use Rattle.ckr_library.specs.Spread.{behind_packed, is_at_most, is_below, is_on, packed_to, rises, span_end}
+use Rattle.ckr_library.specs.Fronts.{fresh, front_on, with_span, front_after, fronts_from, front_of, is_packed_on, AreSpread}
 use Rattle.ckr_library.proofs.Filings.{none_on, spans_between}
 use Rattle.ckr_library.proofs.FrontVolumes.{BeginsOn, begins-behind, front_on-itself, front_on-other, front_on-volume, front_after-volume, with_span-volume}
 
@@ -37,7 +37,7 @@ module _ (volume : ℕ) where
       with_back : (front : Front) (span : Span) → front.volume ≡ span.volume → packed (with_span span front) ≡ true → packed front ≡ true
       with_back front span is holds =
           elim (span.bytes == 0) as
-          (λ b. packed (cond b front (record { volume = span.volume; reach = max front.reach (end_of span); packed = front.packed && nat_le span.start front.reach })) ≡ true → packed front ≡ true) [
+          (λ b. packed (cond b front (record { volume = span.volume; reach = max front.reach (span_end span); packed = front.packed && nat_le span.start front.reach })) ≡ true → packed front ≡ true) [
             | true ↦ λ holds. holds
             | false ↦ λ holds. longer front span.volume (nat_le span.start front.reach) is holds
           ] holds
@@ -108,7 +108,7 @@ module _ (volume : ℕ) where
         by : (f : Front) → (with_span span f).reach ≡ cond (span.bytes == 0) f.reach (max f.reach (span.start + span.bytes))
         by f =
             elim (span.bytes == 0) as
-            (λ b. (cond b f (record { volume = span.volume; reach = max f.reach (end_of span); packed = f.packed && nat_le span.start f.reach })).reach ≡ cond b f.reach (max f.reach (span.start + span.bytes))) [
+            (λ b. (cond b f (record { volume = span.volume; reach = max f.reach (span_end span); packed = f.packed && nat_le span.start f.reach })).reach ≡ cond b f.reach (max f.reach (span.start + span.bytes))) [
               | true ↦ refl
               | false ↦ refl
             ]
@@ -126,7 +126,7 @@ module _ (volume : ℕ) where
         by : (f : Front) → f.volume ≡ volume → f.packed ≡ true → packed (with_span span f) ≡ (span.bytes == 0 || nat_le span.start f.reach)
         by f is good =
             elim (span.bytes == 0) as
-            (λ b. packed (cond b f (record { volume = span.volume; reach = max f.reach (end_of span); packed = f.packed && nat_le span.start f.reach })) ≡ (b || nat_le span.start f.reach)) [
+            (λ b. packed (cond b f (record { volume = span.volume; reach = max f.reach (span_end span); packed = f.packed && nat_le span.start f.reach })) ≡ (b || nat_le span.start f.reach)) [
               | true ↦ whole f.volume f.packed is good
               | false ↦ part span.volume f.packed (nat_le span.start f.reach) same good
             ]

@@ -2,11 +2,7 @@
 use Rattle.std.specs.Prelude.{ℕ, ◌+◌, ◌==◌, ◌&&◌, ◌||◌, ◌≡◌, Bool, true, nat_le, nat_lt, max, if◌then◌else◌, IsTrue, List, [], ◌∷◌}
 use Rattle.ckr_library.specs.declared.fronts.Front.{Front}
 use Rattle.ckr_library.specs.declared.spread.Span.{Span}
-use Rattle.ckr_library.specs.Spread.{rises}
-
--- the byte behind a span
-abbrev pub end_of : Span → ℕ
-end_of span = span.start + span.bytes
+use Rattle.ckr_library.specs.Spread.{rises, span_end}
 
 -- the front of a volume before its first span
 abbrev pub fresh : ℕ → Front
@@ -20,7 +16,7 @@ front_on volume front = if front.volume == volume then front else fresh volume
 abbrev pub with_span : Span → Front → Front
 with_span span front =
     if span.bytes == 0 then front
-    else record { volume = span.volume; reach = max front.reach (end_of span); packed = front.packed && nat_le span.start front.reach }
+    else record { volume = span.volume; reach = max front.reach (span_end span); packed = front.packed && nat_le span.start front.reach }
 
 -- the front behind one more span
 abbrev pub front_after : Front → Span → Front

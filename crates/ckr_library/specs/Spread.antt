@@ -87,16 +87,20 @@ abbrev pub ascends : ℕ → List Span → Bool
 ascends from [] = true
 ascends from (span ∷ spans) = nat_le from span.start && ascends span.start spans
 
+-- the byte behind a span
+abbrev pub span_end : Span → ℕ
+span_end span = span.start + span.bytes
+
 -- whether a span has none of so many bytes of its volume, from this one on
-abbrev pub is_outside : ℕ → ℕ → Span → Bool
-is_outside start bytes span = span.bytes == 0 || (nat_le (span.start + span.bytes) start || nat_le (start + bytes) span.start)
+abbrev pub is_clear : ℕ → ℕ → Span → Bool
+is_clear start bytes span = span.bytes == 0 || (nat_le (span_end span) start || nat_le (start + bytes) span.start)
 
 -- where the spans ascend by their starts, the byte up to which they follow on one another from this one on, with no hole between them
 abbrev pub packed_to : ℕ → List Span → ℕ
 packed_to from [] = from
 packed_to from (span ∷ spans) =
     if span.bytes == 0 then packed_to from spans
-    else if nat_le span.start from then packed_to (max from (span.start + span.bytes)) spans
+    else if nat_le span.start from then packed_to (max from (span_end span)) spans
     else from
 
 -- the spans behind the first hole
@@ -104,5 +108,5 @@ abbrev pub behind_packed : ℕ → List Span → List Span
 behind_packed from [] = []
 behind_packed from (span ∷ spans) =
     if span.bytes == 0 then behind_packed from spans
-    else if nat_le span.start from then behind_packed (max from (span.start + span.bytes)) spans
+    else if nat_le span.start from then behind_packed (max from (span_end span)) spans
     else span ∷ spans

@@ -2,7 +2,8 @@
 ghost use Rattle.std.specs.Prelude.{◌≡◌, ◌+◌, ◌-◌, ◌*◌, ◌≤◌, ◌<◌, ◌++◌, true, length, take, drop};
 ghost use Rattle.std.specs.List.Sorted.{IsPartitionedBy};
 ghost use Rattle.ckr_library.specs.Places.{lead};
-ghost use Rattle.ckr_library.specs.Fronts.{end_of, fresh, front_on, front_after, fronts_from, last_of, is_packed_on};
+ghost use Rattle.ckr_library.specs.Fronts.{fresh, front_on, front_after, fronts_from, last_of, is_packed_on};
+ghost use Rattle.ckr_library.specs.Spread.{span_end};
 
 use crate::Span;
 
@@ -40,8 +41,8 @@ pub(crate) fn front_on(volume: u8, front: Front) -> Front
 }
 
 /// The byte behind a span.
-fn end_of(span: &Span) -> u128
-    ensures { result ≡ end_of span.now }
+fn span_end(span: &Span) -> u128
+    ensures { result ≡ span_end span.now }
 {
     span.start as u128 + span.bytes as u128
 }
@@ -56,7 +57,7 @@ pub(crate) fn front_after(front: Front, span: &Span) -> Front
     }
     Front {
         volume: span.volume,
-        reach: before.reach.max(end_of(span)),
+        reach: before.reach.max(span_end(span)),
         packed: before.packed && span.start as u128 <= before.reach,
     }
 }

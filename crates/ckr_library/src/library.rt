@@ -4,7 +4,7 @@ ghost use Rattle.std.specs.List.{list_all};
 ghost use Rattle.std.specs.Option.{option_copied};
 ghost use Rattle.ckr_library.specs.Catalog.{set_of, kept_of, entry_room, fresh_holding, with_catalog, with_kept, with_length, with_stamp, HasSet, KeepsEntryRoom};
 ghost use Rattle.ckr_library.specs.NameMaps.{are_named_in_order, names_of, with_entry, without_entry, with_changed};
-ghost use Rattle.ckr_library.specs.Spread.{spread_on, is_outside, packed_to, behind_packed};
+ghost use Rattle.ckr_library.specs.Spread.{spread_on, is_clear, packed_to, behind_packed};
 
 use crate::shelf::Shelf;
 use crate::spread::{Packed, Span, Spread};
@@ -81,7 +81,7 @@ impl Library {
     /// Whether no extent of a data set has one of so many bytes of a volume from a start on; of no bytes, whether none begins before
     /// the start and ends behind it. A look-up halves.
     pub fn is_free(&self, volume: u8, start: u32, bytes: u64) -> bool
-        ensures { result ≡ list_all (is_outside start bytes) (spread_on volume self.now.sets) }
+        ensures { result ≡ list_all (is_clear start bytes) (spread_on volume self.now.sets) }
     {
         self.spread.is_free(volume, start, bytes)
     }

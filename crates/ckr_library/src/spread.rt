@@ -4,7 +4,7 @@ ghost use Rattle.std.specs.Ordering.{is_eq};
 ghost use Rattle.std.specs.List.{list_all};
 ghost use Rattle.ckr_library.specs.Fronts.{begins_before};
 ghost use Rattle.ckr_library.specs.Places.{lead};
-ghost use Rattle.ckr_library.specs.Spread.{span_of, spans_of_part, spans_of, span_cmp, is_before, filed, filed_all, unfiled, unfiled_all, is_on, is_below, is_at_most, is_outside, packed_to, behind_packed, rises};
+ghost use Rattle.ckr_library.specs.Spread.{span_of, spans_of_part, spans_of, span_cmp, is_before, filed, filed_all, unfiled, unfiled_all, is_on, is_below, is_at_most, is_clear, packed_to, behind_packed, rises};
 
 use crate::fronts::{Front, first_parted, front_after, front_before, front_on, renew};
 use crate::{DataSet, Extent, Part};
@@ -89,7 +89,7 @@ impl Spread {
     /// Whether no span has one of so many bytes of a volume from a start on, found by halving: so it is where those that begin before
     /// the end of these bytes all end by the start.
     pub(crate) fn is_free(&self, volume: u8, start: u32, bytes: u64) -> bool
-        ensures { result ≡ list_all (is_outside start bytes) (filter (is_on volume) self.now.spans) }
+        ensures { result ≡ list_all (is_clear start bytes) (filter (is_on volume) self.now.spans) }
     {
         let place = first_behind(self.spans.as_slice(), volume, start as u128 + bytes as u128);
         front_on(volume, front_before(self.fronts.as_slice(), place)).reach <= start as u128

@@ -14,7 +14,7 @@ use Rattle.ckr_library.specs.declared.sets.Part.{Part}
 use Rattle.ckr_library.specs.declared.spread.Span.{Span}
 use Rattle.ckr_library.specs.Catalog.{Catalog, Holding, set_of}
 use Rattle.ckr_library.specs.NameMaps.{Name, Named, EachEntry, entry_at}
-use Rattle.ckr_library.specs.Spread.{span_of, spans_of_part, spans_of, spans_of_all, spread_on, is_on}
+use Rattle.ckr_library.specs.Spread.{is_clear, is_on, span_of, spans_of, spans_of_all, spans_of_part, spread_on}
 use Rattle.ckr_library.proofs.Laws.{spread_on-ascends, spans-each, spans-all, all-filter, filter-all}
 use Rattle.ckr_library.proofs.Named.{each-at}
 use Rattle.ckr_volumes.specs.declared.layout.Layout.{Layout}
@@ -22,7 +22,7 @@ use Rattle.ckr_volumes.specs.declared.layout.NoSpace.{NoSpace}
 use Rattle.ckr_volumes.specs.declared.space.Hole.{Hole}
 use Rattle.ckr_volumes.specs.Places.{StretchModel, stretch_on, stretches_of_part, stretches_of, end_of, bytes_of}
 use Rattle.ckr_volumes.specs.Layouts.{is_inside, are_disjoint, are_apart, lists_apart, StandsIn}
-use Rattle.ckr_volumes.specs.Space.{holes_from, room_in, largest, at_front, ends_by, is_clear, is_free, allocated}
+use Rattle.ckr_volumes.specs.Space.{holes_from, room_in, largest, at_front, ends_by, is_free, allocated}
 use Rattle.ckr_volumes.specs.Spots.{by_test}
 use Rattle.ckr_volumes.specs.Allocation.{Allotted, Refused}
 use Rattle.ckr_volumes.proofs.Holes.{IsHole, EachHole, holes-each, found-each, largest-each, largest-most, lowest-found, clear_fewer, clear_none, none-found}

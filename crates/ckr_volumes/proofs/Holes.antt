@@ -8,9 +8,9 @@ use Rattle.std.proofs.lemmas.Bool.{and_from, and_parts, leb-false, leb-true, or_
 use Rattle.std.proofs.lemmas.Option.{none-some, same_Some}
 use Rattle.ckr_base.proofs.Numbers.{nat_le-from}
 use Rattle.ckr_library.specs.declared.spread.Span.{Span}
-use Rattle.ckr_library.specs.Spread.{ascends}
+use Rattle.ckr_library.specs.Spread.{ascends, is_clear, span_end}
 use Rattle.ckr_volumes.specs.declared.space.Hole.{Hole}
-use Rattle.ckr_volumes.specs.Space.{hole_between, span_end, holes_from, room_in, largest, ends_by, is_clear}
+use Rattle.ckr_volumes.specs.Space.{hole_between, holes_from, room_in, largest, ends_by}
 use Rattle.ckr_volumes.specs.Spots.{by_test}
 
 -- each hole of a list has P

@@ -4,8 +4,8 @@ use Rattle.std.specs.List.{list_all}
 use Rattle.std.proofs.lemmas.Bool.{and_parts, leb-true}
 use Rattle.std.proofs.lemmas.Bool.Decides.{nat_tests}
 use Rattle.ckr_library.specs.declared.spread.Span.{Span}
-use Rattle.ckr_library.specs.Spread.{packed_to, behind_packed}
-use Rattle.ckr_volumes.specs.Space.{ends_by, hole_between, holes_from, span_end}
+use Rattle.ckr_library.specs.Spread.{behind_packed, packed_to, span_end}
+use Rattle.ckr_volumes.specs.Space.{ends_by, hole_between, holes_from}
 
 -- no hole up to a byte that isn't behind
 no_hole : (from to : ℕ) → nat_le to from ≡ true → hole_between from to ≡ []

@@ -4,7 +4,7 @@ use Rattle.std.specs.List.{list_all}
 use Rattle.ckr_library.specs.declared.sets.Extent.{Extent}
 use Rattle.ckr_library.specs.declared.spread.Span.{Span}
 use Rattle.ckr_library.specs.Catalog.{Catalog}
-use Rattle.ckr_library.specs.Spread.{spread_on}
+use Rattle.ckr_library.specs.Spread.{is_clear, span_end, spread_on}
 use Rattle.ckr_volumes.specs.declared.layout.Layout.{Layout}
 use Rattle.ckr_volumes.specs.declared.layout.NoSpace.{NoSpace}
 use Rattle.ckr_volumes.specs.declared.space.Hole.{Hole}
@@ -13,10 +13,6 @@ use Rattle.ckr_volumes.specs.Places.{bytes_of}
 -- the bytes from one up to another, if there are any
 abbrev pub hole_between : ℕ → ℕ → List Hole
 hole_between from to = if nat_lt from to then record { from = from; to = to } ∷ [] else []
-
--- the byte behind a span
-abbrev pub span_end : Span → ℕ
-span_end span = span.start + span.bytes
 
 -- the largest runs of bytes from one up to the end that lie in no span, where the spans come in ascending order of their starts;
 -- a span of no bytes parts nothing
@@ -50,10 +46,6 @@ placed_in lrecl space holes = at_front space (largest lrecl holes) (find (λ hol
 -- whether a span ends at this byte or before
 abbrev pub ends_by : ℕ → Span → Bool
 ends_by end span = nat_le (span_end span) end
-
--- whether these bytes of a volume lie in no span
-abbrev pub is_clear : ℕ → ℕ → Span → Bool
-is_clear from bytes span = span.bytes == 0 || (nat_le (span_end span) from || nat_le (from + bytes) span.start)
 
 -- whether these bytes of a volume are inside it, and lie in no extent of a data set
 abbrev pub is_free : Layout → Catalog → ℕ → ℕ → ℕ → Bool

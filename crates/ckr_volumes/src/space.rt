@@ -5,7 +5,7 @@ ghost use Rattle.ckr_library.specs.Catalog.{Holding};
 ghost use Rattle.ckr_library.specs.NameMaps.{EachEntry};
 ghost use Rattle.ckr_volumes.specs.Places.{bytes_of};
 ghost use Rattle.ckr_volumes.specs.Layouts.{StandsIn};
-ghost use Rattle.ckr_volumes.specs.Space.{span_end, ends_by, room_in, placed_in, placed_after, holes_from, allocated};
+ghost use Rattle.ckr_volumes.specs.Space.{ends_by, room_in, placed_in, placed_after, holes_from, allocated};
 ghost use Rattle.ckr_volumes.specs.Allocation.{Allotted, Refused};
 
 use crate::{Layout, NoSpace, Volume};

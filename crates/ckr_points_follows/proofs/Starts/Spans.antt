@@ -11,7 +11,7 @@ use Rattle.ckr_library.specs.declared.sets.Part.{Part}
 use Rattle.ckr_library.specs.declared.spread.Span.{Span}
 use Rattle.ckr_library.specs.Catalog.{Holding}
 use Rattle.ckr_library.specs.NameMaps.{EachEntry, Named}
-use Rattle.ckr_library.specs.Spread.{filed, filed_all, is_before, is_on, is_outside, span_of, spans_of, spans_of_all, spans_of_part, spread_on}
+use Rattle.ckr_library.specs.Spread.{filed, filed_all, is_before, is_on, is_clear, span_of, spans_of, spans_of_all, spans_of_part, spread_on}
 use Rattle.ckr_points.specs.Follows.{lies_clear}
 use Rattle.ckr_points.specs.Rows.{TableSet, holding_of}
 use Rattle.ckr_points_tables.specs.View.{seen_by}
@@ -100,10 +100,10 @@ spread-clears sets tables is lrecl one wide =
         λ i. set-spans entry.1.set.lrecl test (are_apart lrecl entry.1.set.lrecl one) (one-same lrecl entry.1.set.lrecl one wide.0) entry.1.set.parts.items i && each some wide.1 i
 
 -- a stretch is clear of spans where it has no records, or its bytes are outside each of them
-free-clears : (lrecl : ℕ) (one : StretchModel) (spans : List Span) → (one.records == 0 || list_all (is_outside one.start (one.records * lrecl)) spans) ≡ list_all (is_clear_of lrecl one) spans
+free-clears : (lrecl : ℕ) (one : StretchModel) (spans : List Span) → (one.records == 0 || list_all (is_clear one.start (one.records * lrecl)) spans) ≡ list_all (is_clear_of lrecl one) spans
 free-clears lrecl one [] = or-true (one.records == 0)
 free-clears lrecl one (span ∷ spans) =
-    apart (one.records == 0) (is_outside one.start (one.records * lrecl) span) (list_all (is_outside one.start (one.records * lrecl)) spans)
+    apart (one.records == 0) (is_clear one.start (one.records * lrecl) span) (list_all (is_clear one.start (one.records * lrecl)) spans)
     ∙ (λ i. shape (one.records == 0) (span.bytes == 0) (nat_le (span.start + span.bytes) one.start) (nat_le (end_of lrecl one) span.start) i && free-clears lrecl one spans i)
   where
     apart : (a b c : Bool) → (a || (b && c)) ≡ ((a || b) && (a || c))
@@ -122,16 +122,16 @@ free-clears lrecl one (span ∷ spans) =
 pub clear-none : (lrecl : ℕ) (one : StretchModel) (spans : List Span) → one.records ≡ 0 → (one.records == 0) ≡ list_all (is_clear_of lrecl one) spans
 clear-none lrecl one spans none =
     let zero : (one.records == 0) ≡ true = tests one.records none in
-    zero ∙ sym (ap (λ b. b || list_all (is_outside one.start (one.records * lrecl)) spans) zero) ∙ free-clears lrecl one spans
+    zero ∙ sym (ap (λ b. b || list_all (is_clear one.start (one.records * lrecl)) spans) zero) ∙ free-clears lrecl one spans
   where
     tests : (n : ℕ) → n ≡ 0 → (n == 0) ≡ true
     tests n e = grind (arith, nat_tests)
 
 -- and another one where its bytes are outside each
-pub clear-some : (lrecl : ℕ) (one : StretchModel) (spans : List Span) → (one.records ≡ 0 → ⊥) → (bytes : ℕ) → bytes ≡ one.records * lrecl → (free : Bool) → free ≡ list_all (is_outside one.start bytes) spans → free ≡ list_all (is_clear_of lrecl one) spans
+pub clear-some : (lrecl : ℕ) (one : StretchModel) (spans : List Span) → (one.records ≡ 0 → ⊥) → (bytes : ℕ) → bytes ≡ one.records * lrecl → (free : Bool) → free ≡ list_all (is_clear one.start bytes) spans → free ≡ list_all (is_clear_of lrecl one) spans
 clear-some lrecl one spans some bytes is free tells =
     let more : (one.records == 0) ≡ false = tests one.records some in
-    tells ∙ ap (λ n. list_all (is_outside one.start n) spans) is ∙ sym (ap (λ b. b || list_all (is_outside one.start (one.records * lrecl)) spans) more) ∙ free-clears lrecl one spans
+    tells ∙ ap (λ n. list_all (is_clear one.start n) spans) is ∙ sym (ap (λ b. b || list_all (is_clear one.start (one.records * lrecl)) spans) more) ∙ free-clears lrecl one spans
   where
     tests : (n : ℕ) → (n ≡ 0 → ⊥) → (n == 0) ≡ false
     tests n e = grind (arith, nat_tests)

@@ -2,7 +2,7 @@ use Rattle.std.proofs.Common.{◌≡◌, ◌+◌, ap, ◌∙◌, nat_le, filter,
 use Rattle.std.specs.List.{list_all}
 use Rattle.ckr_library.specs.Fronts.{fresh, front_on, front_of, begins_before}
 use Rattle.ckr_library.specs.Places.{lead}
-use Rattle.ckr_library.specs.Spread.{is_on, is_outside}
+use Rattle.ckr_library.specs.Spread.{is_on, is_clear}
 use Rattle.ckr_library.proofs.FreeBytes.{free-spread}
 use Rattle.ckr_library.proofs.FrontLists.{spread-before, spread-length}
 use Rattle.ckr_library.proofs.spread.Spread.is_free.Goals as goal
@@ -15,7 +15,7 @@ returns c =
     let before = spread-before spans c.self.inside.fronts.items c.as_slice-2.result.now c.self.invariant c.as_slice-2.ensures.value c.front_before.result c.first_behind-place.result c.front_before.ensures in
     ap (λ f. nat_le f.reach c.args.start) (c.front_on.ensures ∙ ap (front_on c.args.volume) (before ∙ ap (λ n. front_of (fresh 0) (take n spans)) place))
     ∙ free-spread c.args.volume c.args.start c.args.bytes spans c.self.invariant.rise
-    ∙ ap (λ v. list_all (is_outside c.args.start c.args.bytes) (filter (is_on c.args.volume) v.spans)) c.self.view_is
+    ∙ ap (λ v. list_all (is_clear c.args.start c.args.bytes) (filter (is_on c.args.volume) v.spans)) c.self.view_is
 
 pub front_before-requires : goal.front_before-requires
 front_before-requires c =
