@@ -228,11 +228,28 @@ fn ends_within(kept: &Kept, length: u32) -> bool
     kept.place as u64 + (kept.bytes as u64 + 255) / 256 <= length as u64
 }
 
+/// Whether the first text stands above the second one. Texts of names are short: a look at byte after byte costs less than
+/// a comparison of slices.
+fn is_text_above(one: &[u8], other: &[u8]) -> bool
+    ensures { result ≡ is_gt (name_cmp one.now other.now) }
+{
+    let [first, one @ ..] = one else {
+        return false;
+    };
+    let [second, other @ ..] = other else {
+        return true;
+    };
+    if *first == *second {
+        return is_text_above(one, other);
+    }
+    *first > *second
+}
+
 /// Whether the first name stands above the second one.
 fn is_above(name: &DsName, other: &DsName) -> bool
     ensures { result ≡ is_gt (name_cmp name.now other.now) }
 {
-    name.cmp(other).is_gt()
+    is_text_above(name.text(), other.text())
 }
 
 /// Whether a name stands above that of an item. Above that of no item it doesn't.

@@ -1,5 +1,5 @@
 -- The allocation of DDs in turn, one DD more, and what it is by what stood before the step.
-use Rattle.std.proofs.Common.{◌≡◌, ◌≤◌, ◌+◌, ◌-◌, ◌||◌, ℕ, suc, true, false, not, refl, ap, sym, ◌∙◌, subst, IsTrue, List, [], ◌∷◌, ◌++◌, append_assoc, drop, take, get_or, length, Option, Some, None, Result, Ok, Err, OnOk, IfErr, arith}
+use Rattle.std.proofs.Common.{◌≡◌, ◌≤◌, ◌+◌, ◌-◌, ◌==◌, ◌||◌, ℕ, suc, true, false, not, refl, ap, sym, ◌∙◌, subst, IsTrue, List, [], ◌∷◌, ◌++◌, append-nil, append_assoc, drop, take, get_or, length, Option, Some, None, Result, Ok, Err, OnOk, IfErr, arith}
 use Rattle.std.specs.List.{cons_option, filter_map, list_all}
 use Rattle.std.specs.Option.{option_map, option_map_or}
 use Rattle.std.specs.Result.{IsOkAnd}
@@ -7,16 +7,17 @@ use Rattle.std.specs.Cmp.Lexicographic.{nat_list_cmp_total}
 use Rattle.std.specs.Cmp.{eq_by_cmp_equiv}
 use Rattle.std.proofs.lemmas.Bool.{and_parts, false≢true, not-true, or_right}
 use Rattle.std.proofs.lemmas.List.{take_all}
-use Rattle.ckr_base.proofs.Numbers.{plus-one}
+use Rattle.ckr_base.proofs.Numbers.{equal-true, plus-one}
 use Rattle.ckr_events.specs.declared.event.Made.{Made}
 use Rattle.ckr_jcl.specs.declared.deck.Dd.{Dd}
 use Rattle.ckr_library.specs.declared.sets.Part.{Part}
 use Rattle.ckr_library.specs.declared.sets.Stamp.{Stamp}
 use Rattle.ckr_library.specs.Catalog.{Holding, fresh_holding}
-use Rattle.ckr_library.specs.NameMaps.{Name, Named, entry_at, same_name, with_entry}
+use Rattle.ckr_library.specs.NameMaps.{EachEntry, Name, Named, entry_at, same_name, with_entry}
 use Rattle.ckr_library.proofs.Named.{at-with_entry-other}
 use Rattle.ckr_entry.specs.declared.point.Passed.{Passed}
 use Rattle.ckr_volumes.specs.declared.layout.Layout.{Layout}
+use Rattle.ckr_volumes.specs.Layouts.{StandsIn}
 use Rattle.ckr_meaning.specs.SetUses.Uses.{are_distinct}
 use Rattle.ckr_meaning.specs.Allotments.{allotment_of, is_passed}
 use Rattle.ckr_meaning.specs.EffectiveJob.{OwnedStep, is_among, name_of, placed_from, placed_one}
@@ -33,6 +34,10 @@ pub first_and_rest : {A : Type 0} (items : List A) (item : A) → 1 ≤ length i
 first_and_rest [] item some is = absurd (omega (arith, some))
 first_and_rest (one ∷ rest) item some is =
     ap (λ first. first ∷ rest) (sym is) ∙ ap (λ more. item ∷ more) (sym (take_all (suc (length rest) - 1) rest (omega arith)))
+
+pub none-of : {A : Type 0} (items : List A) → (length items == 0) ≡ true → items ≡ []
+none-of [] none = refl
+none-of (item ∷ items) none = (let zero : length (item ∷ items) ≡ 0 = equal-true (length (item ∷ items)) 0 none in absurd (omega (arith, zero)))
 
 -- the first DD is such as a deck gives
 pub first_fits : (named : Dd → Option Name) (dds : List Dd) (dd : Dd) (rest : List Dd) (name : Name) → dds ≡ dd ∷ rest → named dd ≡ Some name → IsTrue (list_all (fits_named named) dds) → IsTrue (fits_dd dd)
@@ -91,6 +96,16 @@ module _ (layout : Layout) (passed : List Passed) (stamp : Stamp) (named : Dd �
       (more_allocated sets after_sets (made_of number part) before after (allocated_in_turn layout passed stamp named (number + 1) rest after_sets)
       (λ apart. subst AllApart (sym put) (new_all_apart layout sets dd stamp part free name apart))
       (subst (λ list. IsOkAnd (allocated_in_turn layout passed stamp named (number + 1) rest after_sets) (IsAllocated layout after_sets list after)) items fact))
+
+  -- the last DD, which makes its data set: nothing looks at the library behind it
+  pub last_turn : (sets : Named Holding) (part : Part) (before after : List Made) → rest ≡ [] → new_parts layout passed dd name sets ≡ Ok (part ∷ []) → after ≡ before ++ made_of number part ∷ [] → LiesFree layout sets dd part
+      → EachEntry (λ (h : Holding). StandsIn layout h.set) (with_entry name (fresh_holding (fresh_set stamp dd (part ∷ []))) sets)
+      → IsOkAnd (allocated_in_turn layout passed stamp named number dds sets) (IsAllocated layout sets before after)
+  last_turn sets part before after none parts items free stand =
+      let after_sets = with_entry name (fresh_holding (fresh_set stamp dd (part ∷ []))) sets in
+      made_turn sets after_sets part before after after parts refl items free
+      (subst (λ (l : List Dd). IsOkAnd (allocated_in_turn layout passed stamp named (number + 1) l after_sets) (IsAllocated layout after_sets after after)) (sym none)
+      (record { items = sym (append-nil after); stand = stand; apart = λ apart. apart }))
 
 -- ---- by what stood before the step
 

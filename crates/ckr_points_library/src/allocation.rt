@@ -150,7 +150,7 @@ fn new_part(
     }
 }
 
-/// The allocation of DDs, the first of this number, one after the other. The new data sets stand in the library meanwhile.
+/// The allocation of DDs, the first of this number, one after the other. A new data set stands in the library while DDs follow.
 fn allocate_dds(
     layout: &Layout,
     dds: &[Dd],
@@ -210,6 +210,9 @@ fn allocate_dds(
                 ),
                 Ok(Some(part)) => {
                     put(items, made_of(number, &part));
+                    if rest.is_empty() {
+                        return Ok(());
+                    }
                     add(library, name.copied(), fresh_set(dd, stamp, part));
                     let allocated = allocate_dds(
                         layout,

@@ -90,7 +90,11 @@ pub fn library_name(dd: &Dd, root: u32, owner: u32, step: &Name8) -> Option<DsNa
     requires owner { owner ≤ 9999999 }
     ensures { result ≡ library_name dd.now root owner step.now }
 {
-    name_under(dd, &run_name(root), &run_name(owner), step)
+    match &dd.origin {
+        Origin::InStream(_) | Origin::Dummy => None,
+        Origin::Named(name) => Some(name.copied()),
+        _ => name_under(dd, &run_name(root), &run_name(owner), step),
+    }
 }
 
 /// Whether the data set of a DD has this name, for a DD of the step of that name. The numbers are those of [`library_name`].
