@@ -28,6 +28,11 @@ abbrev pub GoesOn : ℕ → ℕ → Next → Type 0
 GoesOn place size (Nexts.Event event next) = GoesOnAt place size event next
 GoesOn place size Nexts.End = Unit {0}
 
+-- what was read has no more bytes than a deck of 100,000 cards
+abbrev pub IsShort : Next → Type 0
+IsShort (Nexts.Event event next) = length (spelling event) ≤ 8000009
+IsShort Nexts.End = Unit {0}
+
 -- a whole record that is no event stands there
 pub record NoEventAt (record' rest : List ℕ) : Type 0 where
   pub leads : LeadsWith record' rest

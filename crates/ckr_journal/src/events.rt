@@ -2,7 +2,7 @@
 ghost use Rattle.std.specs.Prelude.{◌≡◌, ◌≤◌, ◌+◌, IfOk, IfErr, drop};
 ghost use Rattle.ckr_outside.specs.Disk.{OnlyReads, part};
 ghost use Rattle.ckr_outside.specs.Faults.{Rose};
-ghost use Rattle.ckr_journal.specs.Events.{ReadAt, GoesOn, NextEventCause};
+ghost use Rattle.ckr_journal.specs.Events.{ReadAt, GoesOn, IsShort, NextEventCause};
 
 use crate::error::NextEventError;
 use ckr_book::{NextError, next_record};
@@ -41,6 +41,7 @@ pub fn next_event<D: Disk>(
     requires place { place ≤ book }
     ensures read { D.told → IfOk result (ReadAt (drop place (part 512 book (D.content disk.old)))) }
     ensures next { IfOk result (GoesOn place book) }
+    ensures short { IfOk result IsShort }
     ensures only_reads { OnlyReads D.content D.may_leave D.moment D.left_since disk.old disk.new }
     ensures size { D.size disk.new ≡ D.size disk.old }
     ensures faults { D.faults disk.old ≤ D.faults disk.new }
