@@ -1,9 +1,10 @@
 //! Cutting a stream into decks and commands, one line after the other.
 ghost use Rattle.std.specs.Prelude.{◌≡◌};
+ghost use Rattle.ckr_cards.specs.Card.{stored_line};
 ghost use Rattle.ckr_cards.specs.Cut.{columns_of, starts_deck, is_command, is_ignored};
 ghost use Rattle.ckr_cards.specs.CutSteps.{behind_card, behind_continuation, behind_first_card, step, step_outside, step_between, step_within, step_calling};
 
-use crate::card::{columns_in, stored_line};
+use crate::card::{StoredCard, columns_in, stored_line};
 use crate::kind::{is_continuation, is_named, is_null, is_well_placed, kind_of};
 use crate::lines::{
     InStream, continued_goes_on, first_goes_on, is_command, is_ignored, is_record, records_after,
@@ -190,13 +191,21 @@ impl Cutter {
     }
 
     /// What the next line is. It takes no memory.
-    #[tactic(auto, using(crate::proofs::Fills::columns_of_stored))]
     pub fn line(&mut self, text: &[u8]) -> Line
         ensures kind { result ≡ (step self.old text.now).kind }
         ensures state { self.new ≡ (step self.old text.now).state }
     {
-        let stored = stored_line(text);
-        let stepped = step(self.state, text, columns_in(&stored));
+        self.card(text, &stored_line(text))
+    }
+
+    /// What the next line is, which is stored as this card. It takes no memory.
+    #[tactic(auto, using(crate::proofs::Fills::columns_of_stored))]
+    pub fn card(&mut self, text: &[u8], stored: &StoredCard) -> Line
+        requires { stored.now ≡ stored_line text.now }
+        ensures kind { result ≡ (step self.old text.now).kind }
+        ensures state { self.new ≡ (step self.old text.now).state }
+    {
+        let stepped = step(self.state, text, columns_in(stored));
         self.state = stepped.state;
         stepped.kind
     }

@@ -12,6 +12,7 @@ mod lines;
 mod operand;
 mod parts;
 mod statement;
+mod stored_deck;
 
 pub use card::{Card, StoredCard, stored_line};
 pub use cutter::{CutState, Cutter, Line};
@@ -25,3 +26,4 @@ pub use lines::InStream;
 pub use operand::{Operand, Operands};
 pub use parts::{Reading, part_length};
 pub use statement::{CardList, Statement, read_statement};
+pub use stored_deck::StoredDeck;

@@ -22,7 +22,7 @@ pub use failure::Failed;
 pub use file_disk::FileDisk;
 pub use memory_disk::{CallKind, DiskCall, MemDisk};
 pub use memory_sink::MemSink;
-pub use memory_source::MemSource;
+pub use memory_source::{MemSource, copy_front};
 pub use read_ahead::ReadAhead;
 pub use sink::{Sink, put_all};
 pub use source::{PIECE_BYTES, STREAM_LIMIT, Source, take_piece};

@@ -34,8 +34,8 @@ impl MemSource {
     }
 }
 
-/// As many bytes as fit go to the front of the buffer.
-fn copy_front(bytes: &[u8], buf: &mut [u8]) -> usize
+/// As many bytes as fit go to the front of the buffer. It tells how many.
+pub fn copy_front(bytes: &[u8], buf: &mut [u8]) -> usize
     ensures amount { result ≡ min (length bytes.now) (length buf.new) }
     ensures bytes { bytes.now ≡ take result buf.new ++ drop result bytes.now }
     ensures end { result ≡ 0 → 0 < length buf.new → bytes.now ≡ [] }

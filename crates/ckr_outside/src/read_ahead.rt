@@ -74,8 +74,7 @@ impl<D: Disk> Disk for ReadAhead<D> {
     }
 
     /// Bytes that follow those read last are read with those behind them, as many as the block has room for, unless the disk ends
-    /// before that. So a read fails
-    /// too where the disk fails on bytes behind the ones asked for.
+    /// before that. So a read fails too where the disk fails on bytes behind the ones asked for.
     fn read(&mut self, at: u64, buf: &mut [u8]) -> Result<(), Failed> {
         let follows = at == self.next;
         self.next = at + buf.len() as u64;

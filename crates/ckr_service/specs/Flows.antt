@@ -9,7 +9,7 @@ use Rattle.ckr_service.specs.declared.stop.Stop.{Stop}
 use Rattle.ckr_service.specs.Calls.{after_all, all_fit, calls}
 use Rattle.ckr_service.specs.Events.{events_told}
 use Rattle.ckr_service.specs.Service.{View, Serves, StopsWithin, seen}
-use Rattle.ckr_service.specs.Sessions.{standing_of, HasWholeCards}
+use Rattle.ckr_service.specs.Sessions.{standing_of, HasFewCards}
 use Rattle.ckr_service.specs.Tallies.{no_tally, with_answers}
 use Rattle.ckr_service.specs.Stream.{is_line_end, requests_of, text_of, has_refusal}
 
@@ -24,7 +24,7 @@ module _ {D O : Type 0} where
     pub refused : f.session.clerk.refused ≡ false
     pub tally : f.session.clerk.tally ≡ no_tally
     pub partial : f.partial.items ≡ []
-    pub whole : HasWholeCards f.session
+    pub cards : HasFewCards f.session
 
   -- what the line asks that waits, once it ends
   abbrev pub line_requests : Flow D O → List Handed

@@ -1,7 +1,7 @@
 //! A source and a sink that never fail.
-ghost use Rattle.std.specs.Prelude.{◌≡◌, ◌≤◌, ◌<◌, ◌++◌, [], Some, None, length, take, drop, min, vec_len};
+ghost use Rattle.std.specs.Prelude.{◌≡◌, ◌≤◌, Some, None, vec_len};
 
-use ckr_outside::{Failed, Sink, Source};
+use ckr_outside::{Failed, Sink, Source, copy_front};
 
 /// A stream of bytes that are there.
 #[derive(Drop)]
@@ -20,18 +20,6 @@ impl Bytes {
     {
         Bytes { bytes, at: 0 }
     }
-}
-
-/// As many bytes as fit go to the front of the buffer.
-fn copy_front(bytes: &[u8], buf: &mut [u8]) -> usize
-    ensures amount { result ≡ min (length bytes.now) (length buf.new) }
-    ensures bytes { bytes.now ≡ take result buf.new ++ drop result bytes.now }
-    ensures end { result ≡ 0 → 0 < length buf.new → bytes.now ≡ [] }
-{
-    let count = bytes.len().min(buf.len());
-    let (front, _) = bytes.split_at(count);
-    buf[..count].copy_from_slice(front);
-    count
 }
 
 impl Source for Bytes {

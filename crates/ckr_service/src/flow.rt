@@ -7,7 +7,7 @@ ghost use Rattle.ckr_service.specs.Stops.{Goes, Stopped};
 ghost use Rattle.ckr_desk.specs.State.{IsOpen, disk_of};
 ghost use Rattle.ckr_service.specs.Lines.{EndsTold, FailsBy, Telling, WritesAll, WritesFront, telling};
 ghost use Rattle.ckr_service.specs.Service.{ServesTelling, HaltsTelling, HaltCause, StopsWithin, RestWritten, Caused, seen, staffed_of, stop_of};
-ghost use Rattle.ckr_service.specs.Sessions.{HasWholeCards, standing_of};
+ghost use Rattle.ckr_service.specs.Sessions.{HasFewCards, standing_of};
 ghost use Rattle.ckr_service.specs.Flows.{CutsLine, EndsLine, Carries, Breaks, Finishes, FinishBreaks, IsBegun, end_requests, line_requests};
 
 use crate::lines::Lines;
@@ -76,7 +76,7 @@ impl<D: Disk, O: Operator> Flow<D, O> {
     /// The line ends whose bytes wait.
     fn end_line<K: Sink>(&mut self, sink: &mut K) -> Result<(), Stop>
         requires few { self.old.session.number < 2 ^ 25 }
-        requires whole { HasWholeCards self.old.session }
+        requires cards { HasFewCards self.old.session }
         requires is_open { IsOpen self.old.session.clerk.desk }
         ensures ok { IsTrusted D.told D.content D.may_leave self.old.session.clerk.desk → OnOk result (EndsLine D.content self.old self.new (K.written sink.old) (K.written sink.new)) }
         ensures trusted { OnOk result (IsTrusted D.told D.content D.may_leave self.old.session.clerk.desk → IsTrusted D.told D.content D.may_leave self.new.session.clerk.desk) }
@@ -88,7 +88,7 @@ impl<D: Disk, O: Operator> Flow<D, O> {
         ensures size { D.size (disk_of self.new.session.clerk.desk) ≡ D.size (disk_of self.old.session.clerk.desk) }
         ensures cause { IfErr result (λ stop. Caused (IsTrusted D.told D.content D.may_leave self.old.session.clerk.desk) stop (K.faults sink.old) (K.faults sink.new) (D.faults (disk_of self.old.session.clerk.desk)) (D.faults (disk_of self.new.session.clerk.desk))) }
         ensures cuts { OnOk result (CutsLine self.old self.new) }
-        ensures whole { OnOk result (HasWholeCards self.new.session) }
+        ensures cards { OnOk result (HasFewCards self.new.session) }
     {
         let mut lines = Lines::new(self.session.clerk.alloc);
         match self
@@ -107,7 +107,7 @@ impl<D: Disk, O: Operator> Flow<D, O> {
     /// The next byte comes.
     fn byte<K: Sink>(&mut self, byte: u8, sink: &mut K) -> Result<(), Stop>
         requires few { self.old.session.number < 2 ^ 25 }
-        requires whole { HasWholeCards self.old.session }
+        requires cards { HasFewCards self.old.session }
         requires is_open { IsOpen self.old.session.clerk.desk }
         ensures ok { IsTrusted D.told D.content D.may_leave self.old.session.clerk.desk → OnOk result (Carries D.content self.old self.new (byte ∷ []) (K.written sink.old) (K.written sink.new)) }
         ensures trusted { OnOk result (IsTrusted D.told D.content D.may_leave self.old.session.clerk.desk → IsTrusted D.told D.content D.may_leave self.new.session.clerk.desk) }
@@ -119,7 +119,7 @@ impl<D: Disk, O: Operator> Flow<D, O> {
         ensures size { D.size (disk_of self.new.session.clerk.desk) ≡ D.size (disk_of self.old.session.clerk.desk) }
         ensures cause { IfErr result (λ stop. Caused (IsTrusted D.told D.content D.may_leave self.old.session.clerk.desk) stop (K.faults sink.old) (K.faults sink.new) (D.faults (disk_of self.old.session.clerk.desk)) (D.faults (disk_of self.new.session.clerk.desk))) }
         ensures few { OnOk result (self.new.session.number + length self.new.partial.items ≤ self.old.session.number + length self.old.partial.items + 1) }
-        ensures whole { OnOk result (HasWholeCards self.new.session) }
+        ensures cards { OnOk result (HasFewCards self.new.session) }
     {
         let _layout = self.session.clerk.desk.layout();
         if byte == b'\n' {
@@ -132,7 +132,7 @@ impl<D: Disk, O: Operator> Flow<D, O> {
     /// The next piece comes.
     pub fn feed<K: Sink>(&mut self, piece: &[u8], sink: &mut K) -> Result<(), Stop>
         requires few { self.old.session.number + length self.old.partial.items + length piece.now ≤ 2 ^ 24 }
-        requires whole { HasWholeCards self.old.session }
+        requires cards { HasFewCards self.old.session }
         requires is_open { IsOpen self.old.session.clerk.desk }
         ensures ok { IsTrusted D.told D.content D.may_leave self.old.session.clerk.desk → OnOk result (Carries D.content self.old self.new piece.now (K.written sink.old) (K.written sink.new)) }
         ensures trusted { OnOk result (IsTrusted D.told D.content D.may_leave self.old.session.clerk.desk → IsTrusted D.told D.content D.may_leave self.new.session.clerk.desk) }
@@ -144,7 +144,7 @@ impl<D: Disk, O: Operator> Flow<D, O> {
         ensures size { D.size (disk_of self.new.session.clerk.desk) ≡ D.size (disk_of self.old.session.clerk.desk) }
         ensures cause { IfErr result (λ stop. Caused (IsTrusted D.told D.content D.may_leave self.old.session.clerk.desk) stop (K.faults sink.old) (K.faults sink.new) (D.faults (disk_of self.old.session.clerk.desk)) (D.faults (disk_of self.new.session.clerk.desk))) }
         ensures few { OnOk result (self.new.session.number + length self.new.partial.items ≤ self.old.session.number + length self.old.partial.items + length piece.now) }
-        ensures whole { OnOk result (HasWholeCards self.new.session) }
+        ensures cards { OnOk result (HasFewCards self.new.session) }
     {
         let _layout = self.session.clerk.desk.layout();
         for byte in piece {
@@ -156,7 +156,7 @@ impl<D: Disk, O: Operator> Flow<D, O> {
     /// The stream ends. Answers whether a line or a deck was refused.
     pub fn end<K: Sink>(&mut self, sink: &mut K) -> Result<bool, Stop>
         requires few { self.old.session.number < 2 ^ 25 }
-        requires whole { HasWholeCards self.old.session }
+        requires cards { HasFewCards self.old.session }
         requires is_open { IsOpen self.old.session.clerk.desk }
         ensures ok { IsTrusted D.told D.content D.may_leave self.old.session.clerk.desk → IfOk result (λ refused. Finishes D.content self.old (seen D.content self.new.session.clerk) refused (K.written sink.old) (K.written sink.new)) }
         ensures trusted { OnOk result (IsTrusted D.told D.content D.may_leave self.old.session.clerk.desk → IsTrusted D.told D.content D.may_leave self.new.session.clerk.desk) }
@@ -181,7 +181,7 @@ impl<D: Disk, O: Operator> Flow<D, O> {
     /// The line that waits ends, if there is one, and the deck that is open.
     fn end_requests<K: Sink>(&mut self, lines: &mut Lines, sink: &mut K) -> Result<(), Halt>
         requires few { self.old.session.number < 2 ^ 25 }
-        requires whole { HasWholeCards self.old.session }
+        requires cards { HasFewCards self.old.session }
         requires is_open { IsOpen self.old.session.clerk.desk }
         requires fresh { lines.old.failed ≡ false }
         ensures serves { IsTrusted D.told D.content D.may_leave self.old.session.clerk.desk → OnOk result (ServesTelling (seen D.content self.old.session.clerk) (seen D.content self.new.session.clerk) (end_requests self.old)

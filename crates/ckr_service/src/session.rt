@@ -1,5 +1,5 @@
 //! What the desk has of a stream between two lines.
-ghost use Rattle.std.specs.Prelude.{◌≡◌, ◌<◌, ◌≤◌, ◌+◌, ◌*◌, ◌%◌, ◌^◌, [], ◌++◌, OnOk, IfErr, false, true, length};
+ghost use Rattle.std.specs.Prelude.{◌≡◌, ◌<◌, ◌≤◌, ◌+◌, ◌*◌, ◌^◌, [], ◌++◌, OnOk, IfErr, false, true, length};
 ghost use Rattle.ckr_outside.specs.Faults.{Rose};
 ghost use Rattle.ckr_cards.specs.Session.{first_session, handed_deck, handed_before, handed_alone, handed_with, session_behind};
 ghost use Rattle.ckr_desk.specs.Soundness.{IsTrusted};
@@ -8,7 +8,7 @@ ghost use Rattle.ckr_desk.specs.State.{IsOpen, disk_of};
 ghost use Rattle.ckr_service.specs.Lines.{telling};
 ghost use Rattle.ckr_service.specs.Service.{HaltsSo, HaltsTelling, HaltCause, Serves, ServesTelling, seen, staffed_of};
 ghost use Rattle.ckr_service.specs.Tallies.{no_tally};
-ghost use Rattle.ckr_service.specs.Sessions.{standing_of, HasWholeCards, cards_left, cards_with};
+ghost use Rattle.ckr_service.specs.Sessions.{standing_of, HasFewCards, cards_left, cards_with};
 
 use crate::clerk::Clerk;
 use crate::lines::Lines;
@@ -16,7 +16,7 @@ use crate::roster::Roster;
 use crate::stop::Halt;
 use crate::text::Text;
 use ckr_base::NoMemory;
-use ckr_cards::{Cutter, Line, stored_line};
+use ckr_cards::{Cutter, Line, StoredCard, StoredDeck, stored_line};
 use ckr_console::Operator;
 use ckr_desk::Desk;
 use ckr_outside::{Disk, Sink};
@@ -27,35 +27,33 @@ use std::alloc::Global;
 pub struct Session<D: Disk, O: Operator> {
     pub clerk: Clerk<D, O>,
     pub cutter: Cutter,
-    /// 81 bytes for each card: 80 columns, and 1 where the line was longer.
-    pub deck: Vec<u8>,
+    pub deck: StoredDeck,
     pub number: u32,
 }
 
 /// The deck ends that is open, if there is one.
 fn end_deck<D: Disk, O: Operator>(
     clerk: &mut Clerk<D, O>,
-    deck: &mut Vec<u8>,
+    deck: &mut StoredDeck,
     out: &mut Text,
 ) -> Result<(), Halt>
-    requires whole { length deck.old.items % 81 ≡ 0 }
-    requires few { length deck.old.items < 81 * 4294967295 }
+    requires few { length deck.old < 81 * 4294967295 }
     requires is_open { IsOpen clerk.old.desk }
-    ensures serves { IsTrusted D.told D.content D.may_leave clerk.old.desk → OnOk result (Serves (seen D.content clerk.old) (seen D.content clerk.new) (handed_deck deck.old.items) out.old out.new) }
+    ensures serves { IsTrusted D.told D.content D.may_leave clerk.old.desk → OnOk result (Serves (seen D.content clerk.old) (seen D.content clerk.new) (handed_deck deck.old) out.old out.new) }
     ensures trusted { OnOk result (IsTrusted D.told D.content D.may_leave clerk.old.desk → IsTrusted D.told D.content D.may_leave clerk.new.desk) }
     ensures goes { IsTrusted D.told D.content D.may_leave clerk.old.desk → OnOk result (Goes D.content D.moment D.left_since D.size clerk.old.desk clerk.new.desk) }
     ensures is_open { OnOk result (IsOpen clerk.new.desk) }
     ensures later { D.faults (disk_of clerk.old.desk) ≤ D.faults (disk_of clerk.new.desk) }
     ensures size { D.size (disk_of clerk.new.desk) ≡ D.size (disk_of clerk.old.desk) }
-    ensures halt { IsTrusted D.told D.content D.may_leave clerk.old.desk → IfErr result (λ halt. Stopped D.content D.moment D.left_since D.size clerk.old.desk (disk_of clerk.new.desk) (HaltsSo halt (staffed_of D.content clerk.old) (handed_deck deck.old.items) out.old out.new)) }
+    ensures halt { IsTrusted D.told D.content D.may_leave clerk.old.desk → IfErr result (λ halt. Stopped D.content D.moment D.left_since D.size clerk.old.desk (disk_of clerk.new.desk) (HaltsSo halt (staffed_of D.content clerk.old) (handed_deck deck.old) out.old out.new)) }
     ensures cause { IfErr result (λ halt. HaltCause (IsTrusted D.told D.content D.may_leave clerk.old.desk) halt (D.faults (disk_of clerk.old.desk)) (D.faults (disk_of clerk.new.desk))) }
-    ensures deck { OnOk result (deck.new.items ≡ []) }
+    ensures deck { OnOk result (deck.new ≡ []) }
 {
     let _layout = clerk.desk.layout();
     if deck.is_empty() {
         return Ok(());
     }
-    clerk.submit(deck, out)?;
+    clerk.submit(deck.bytes(), out)?;
     deck.clear();
     Ok(())
 }
@@ -64,21 +62,20 @@ fn end_deck<D: Disk, O: Operator>(
 fn end_before<D: Disk, O: Operator>(
     kind: Line,
     clerk: &mut Clerk<D, O>,
-    deck: &mut Vec<u8>,
+    deck: &mut StoredDeck,
     out: &mut Text,
 ) -> Result<(), Halt>
-    requires whole { length deck.old.items % 81 ≡ 0 }
-    requires few { length deck.old.items < 81 * 4294967295 }
+    requires few { length deck.old < 81 * 4294967295 }
     requires is_open { IsOpen clerk.old.desk }
-    ensures serves { IsTrusted D.told D.content D.may_leave clerk.old.desk → OnOk result (Serves (seen D.content clerk.old) (seen D.content clerk.new) (handed_before kind deck.old.items) out.old out.new) }
+    ensures serves { IsTrusted D.told D.content D.may_leave clerk.old.desk → OnOk result (Serves (seen D.content clerk.old) (seen D.content clerk.new) (handed_before kind deck.old) out.old out.new) }
     ensures trusted { OnOk result (IsTrusted D.told D.content D.may_leave clerk.old.desk → IsTrusted D.told D.content D.may_leave clerk.new.desk) }
     ensures goes { IsTrusted D.told D.content D.may_leave clerk.old.desk → OnOk result (Goes D.content D.moment D.left_since D.size clerk.old.desk clerk.new.desk) }
     ensures is_open { OnOk result (IsOpen clerk.new.desk) }
     ensures later { D.faults (disk_of clerk.old.desk) ≤ D.faults (disk_of clerk.new.desk) }
     ensures size { D.size (disk_of clerk.new.desk) ≡ D.size (disk_of clerk.old.desk) }
-    ensures halt { IsTrusted D.told D.content D.may_leave clerk.old.desk → IfErr result (λ halt. Stopped D.content D.moment D.left_since D.size clerk.old.desk (disk_of clerk.new.desk) (HaltsSo halt (staffed_of D.content clerk.old) (handed_before kind deck.old.items) out.old out.new)) }
+    ensures halt { IsTrusted D.told D.content D.may_leave clerk.old.desk → IfErr result (λ halt. Stopped D.content D.moment D.left_since D.size clerk.old.desk (disk_of clerk.new.desk) (HaltsSo halt (staffed_of D.content clerk.old) (handed_before kind deck.old) out.old out.new)) }
     ensures cause { IfErr result (λ halt. HaltCause (IsTrusted D.told D.content D.may_leave clerk.old.desk) halt (D.faults (disk_of clerk.old.desk)) (D.faults (disk_of clerk.new.desk))) }
-    ensures deck { OnOk result (deck.new.items ≡ cards_left kind deck.old.items) }
+    ensures deck { OnOk result (deck.new ≡ cards_left kind deck.old) }
 {
     let _layout = clerk.desk.layout();
     match kind {
@@ -89,15 +86,12 @@ fn end_before<D: Disk, O: Operator>(
     }
 }
 
-/// A line of a deck is kept as its card.
-fn keep_card(kind: Line, deck: &mut Vec<u8>, text: &[u8]) -> Result<(), NoMemory>
-    ensures { OnOk result (deck.new.items ≡ cards_with kind deck.old.items text.now) }
+/// The card of a line is kept where the line is of a deck.
+fn keep_card(kind: Line, deck: &mut StoredDeck, card: StoredCard) -> Result<(), NoMemory>
+    ensures { OnOk result (deck.new ≡ cards_with kind deck.old card) }
 {
     match kind {
-        Line::Starts | Line::Card => {
-            deck.extend_from_slice(&stored_line(text))?;
-            Ok(())
-        }
+        Line::Starts | Line::Card => deck.push(card),
         Line::Ends | Line::Command | Line::Stray | Line::Ignored => Ok(()),
     }
 }
@@ -141,12 +135,12 @@ impl<D: Disk, O: Operator> Session<D, O> {
         ensures roster { result.clerk.roster ≡ roster }
         ensures refused { result.clerk.refused ≡ false }
         ensures tally { result.clerk.tally ≡ no_tally }
-        ensures whole { HasWholeCards result }
+        ensures cards { HasFewCards result }
     {
         Session {
             clerk: Clerk::new(alloc, desk, roster),
             cutter: Cutter::new(),
-            deck: Vec::new(alloc),
+            deck: StoredDeck::new(alloc),
             number: 0,
         }
     }
@@ -168,7 +162,7 @@ impl<D: Disk, O: Operator> Session<D, O> {
         sink: &mut K,
     ) -> Result<(), Halt>
         requires few { self.old.number < 2 ^ 25 }
-        requires whole { HasWholeCards self.old }
+        requires cards { HasFewCards self.old }
         requires is_open { IsOpen self.old.clerk.desk }
         requires fresh { lines.old.failed ≡ false }
         ensures serves { IsTrusted D.told D.content D.may_leave self.old.clerk.desk → OnOk result (ServesTelling (seen D.content self.old.clerk) (seen D.content self.new.clerk) (handed_with (standing_of self.old) text.now)
@@ -184,27 +178,28 @@ impl<D: Disk, O: Operator> Session<D, O> {
         ensures sink_later { K.faults sink.old ≤ K.faults sink.new }
         ensures failed { lines.new.failed ≡ true → Rose (K.faults sink.old) (K.faults sink.new) }
         ensures standing { OnOk result (standing_of self.new ≡ session_behind (standing_of self.old) text.now) }
-        ensures whole { OnOk result (HasWholeCards self.new) }
+        ensures cards { OnOk result (HasFewCards self.new) }
     {
         self.number += 1;
-        let kind = self.cutter.line(text);
+        let card = stored_line(text);
+        let kind = self.cutter.card(text, &card);
         end_before(kind, &mut self.clerk, &mut self.deck, &mut lines.text)?;
-        keep_card(kind, &mut self.deck, text)?;
+        keep_card(kind, &mut self.deck, card)?;
         serve_line(kind, &mut self.clerk, self.number, text, lines, sink)
     }
 
     /// The stream ends.
     pub fn end(&mut self, out: &mut Text) -> Result<(), Halt>
         requires few { self.old.number < 2 ^ 26 }
-        requires whole { HasWholeCards self.old }
+        requires cards { HasFewCards self.old }
         requires is_open { IsOpen self.old.clerk.desk }
-        ensures serves { IsTrusted D.told D.content D.may_leave self.old.clerk.desk → OnOk result (Serves (seen D.content self.old.clerk) (seen D.content self.new.clerk) (handed_deck self.old.deck.items) out.old out.new) }
+        ensures serves { IsTrusted D.told D.content D.may_leave self.old.clerk.desk → OnOk result (Serves (seen D.content self.old.clerk) (seen D.content self.new.clerk) (handed_deck self.old.deck) out.old out.new) }
         ensures trusted { OnOk result (IsTrusted D.told D.content D.may_leave self.old.clerk.desk → IsTrusted D.told D.content D.may_leave self.new.clerk.desk) }
         ensures goes { IsTrusted D.told D.content D.may_leave self.old.clerk.desk → OnOk result (Goes D.content D.moment D.left_since D.size self.old.clerk.desk self.new.clerk.desk) }
         ensures is_open { OnOk result (IsOpen self.new.clerk.desk) }
         ensures later { D.faults (disk_of self.old.clerk.desk) ≤ D.faults (disk_of self.new.clerk.desk) }
         ensures size { D.size (disk_of self.new.clerk.desk) ≡ D.size (disk_of self.old.clerk.desk) }
-        ensures halt { IsTrusted D.told D.content D.may_leave self.old.clerk.desk → IfErr result (λ halt. Stopped D.content D.moment D.left_since D.size self.old.clerk.desk (disk_of self.new.clerk.desk) (HaltsSo halt (staffed_of D.content self.old.clerk) (handed_deck self.old.deck.items) out.old out.new)) }
+        ensures halt { IsTrusted D.told D.content D.may_leave self.old.clerk.desk → IfErr result (λ halt. Stopped D.content D.moment D.left_since D.size self.old.clerk.desk (disk_of self.new.clerk.desk) (HaltsSo halt (staffed_of D.content self.old.clerk) (handed_deck self.old.deck) out.old out.new)) }
         ensures cause { IfErr result (λ halt. HaltCause (IsTrusted D.told D.content D.may_leave self.old.clerk.desk) halt (D.faults (disk_of self.old.clerk.desk)) (D.faults (disk_of self.new.clerk.desk))) }
     {
         end_deck(&mut self.clerk, &mut self.deck, out)

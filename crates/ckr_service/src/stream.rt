@@ -7,7 +7,7 @@ ghost use Rattle.ckr_service.specs.Stops.{Goes, HasSuch, KeepsTo};
 ghost use Rattle.ckr_desk.specs.State.{IsOpen, disk_of};
 ghost use Rattle.ckr_service.specs.Flows.{IsBegun};
 ghost use Rattle.ckr_service.specs.Service.{seen, staffed_by, staffed_of};
-ghost use Rattle.ckr_service.specs.Sessions.{HasWholeCards};
+ghost use Rattle.ckr_service.specs.Sessions.{HasFewCards};
 ghost use Rattle.ckr_service.specs.Feeds.{Serving, FedAll, IsBehind, IsCounted, IsStopped, faults_of};
 
 use crate::counts::{Counts, counts_of};
@@ -49,7 +49,7 @@ fn feed_all<S: Source, K: Sink, D: Disk, O: Operator>(
     ensures goes { IsTrusted D.told D.content D.may_leave flow.old.session.clerk.desk → OnOk result (Goes D.content D.moment D.left_since D.size flow.old.session.clerk.desk flow.new.session.clerk.desk) }
     ensures is_open { OnOk result (IsOpen flow.new.session.clerk.desk) }
     ensures few { OnOk result (flow.new.session.number < 2 ^ 25) }
-    ensures whole { OnOk result (HasWholeCards flow.new.session) }
+    ensures cards { OnOk result (HasFewCards flow.new.session) }
     ensures stop { IfErr result (λ stop. IsStopped (IsTrusted D.told D.content D.may_leave flow.old.session.clerk.desk)
         (KeepsTo D.content D.moment D.left_since D.size flow.old.session.clerk.desk (disk_of flow.new.session.clerk.desk)) (HasSuch D.content D.moment D.left_since D.size flow.old.session.clerk.desk (disk_of flow.new.session.clerk.desk)) (staffed_of D.content flow.old.session.clerk) stop
         (faults_of (S.faults source.old) (S.faults source.new) (K.faults sink.old) (K.faults sink.new) (D.faults (disk_of flow.old.session.clerk.desk)) (D.faults (disk_of flow.new.session.clerk.desk))) (S.left source.old) (S.left source.new) (K.written sink.old) (K.written sink.new)) }

@@ -69,5 +69,5 @@ module _ {D O : Type 0} (content : D → List ℕ) where
       ∙ sym (ap (λ b. handed_by s (if b then [] else (f.partial.items ∷ []))) some)
 
   -- where no line waits, it is the deck that is open
-  pub end_requests_without : (f : Flow D O) → (length f.partial.items == 0) ≡ true → handed_deck f.session.deck.items ≡ end_requests f
+  pub end_requests_without : (f : Flow D O) → (length f.partial.items == 0) ≡ true → handed_deck f.session.deck ≡ end_requests f
   end_requests_without f none = sym (ap (λ b. handed_by (standing_of f.session) (if b then [] else (f.partial.items ∷ []))) none)

@@ -23,6 +23,6 @@ returns-then-is_empty-clause-goes g c holds =
 
 pub returns-clause-serves : goal.returns-clause-serves
 returns-clause-serves g c holds =
-    let cards = c.args.deck.now.items in
+    let cards = c.args.deck.now in
     let some : (length cards == 0) ≡ false = grind (arith, common_steps, c.is_empty.ensures, c.if-is_empty.false) in
-    deck_served _ _ cards c.deref.result.now _ _ c.deref.ensures.value some (c.in_ok-submit.ensures.serves holds)
+    deck_served _ _ cards c.bytes.result.now _ _ c.bytes.ensures.value some (c.in_ok-submit.ensures.serves holds)

@@ -3,7 +3,7 @@ use Rattle.ckr_desk.specs.Soundness.{IsTrusted}
 use Rattle.ckr_desk.specs.State.{IsOpen, disk_of}
 use Rattle.ckr_service.specs.Stops.{Goes}
 use Rattle.ckr_service.specs.Service.{seen}
-use Rattle.ckr_service.specs.Sessions.{HasWholeCards}
+use Rattle.ckr_service.specs.Sessions.{HasFewCards}
 use Rattle.ckr_service.specs.Feeds.{Feeding}
 use Rattle.ckr_service.proofs.stream.feed_all.Given as goal
 
@@ -17,7 +17,7 @@ invariant-loop-taken g l = record {
   is_open : IsOpen l.flow.session.clerk.desk;
   few : l.count ≤ 16_777_216;
   lines : l.flow.session.number + length l.flow.partial.items ≤ l.count;
-  whole : HasWholeCards l.flow.session;
+  cards : HasFewCards l.flow.session;
   source_later : g.S.Source.faults l.fn.source ≤ g.S.Source.faults l.source;
   sink_later : g.K.Sink.faults l.fn.sink ≤ g.K.Sink.faults l.sink;
   disk_later : g.D.Disk.faults (disk_of l.fn.flow.session.clerk.desk) ≤ g.D.Disk.faults (disk_of l.flow.session.clerk.desk);

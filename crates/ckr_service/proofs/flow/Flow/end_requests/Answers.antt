@@ -55,7 +55,7 @@ returns-clause-serves g c holds =
     let line = c.deref.result.now in
     let o = c.in_ok-line.ensures in
     let some : (length f.partial.items == 0) ≡ false = grind (arith, common_steps, c.is_empty.ensures, c.if-is_empty.false) in
-    let whole = end_requests_of content f line c.line.new.self.deck.items c.deref.ensures.value some (ap (λ (s : Standing). s.cards) o.standing) in
+    let whole = end_requests_of content f line c.line.new.self.deck c.deref.ensures.value some (ap (λ (s : Standing). s.cards) o.standing) in
     let from = telling c.args.lines.now (g.K.Sink.written c.args.sink.now) (g.K.Sink.faults c.args.sink.now) in
     let lines = c.line.new.lines in
     let written = g.K.Sink.written c.line.new.sink in
@@ -71,7 +71,7 @@ returns-clause-halt g c holds =
     let line = c.deref.result.now in
     let o = c.in_ok-line.ensures in
     let some : (length f.partial.items == 0) ≡ false = grind (arith, common_steps, c.is_empty.ensures, c.if-is_empty.false) in
-    let whole = end_requests_of d.content f line c.line.new.self.deck.items c.deref.ensures.value some (ap (λ (s : Standing). s.cards) o.standing) in
+    let whole = end_requests_of d.content f line c.line.new.self.deck c.deref.ensures.value some (ap (λ (s : Standing). s.cards) o.standing) in
     let from = telling c.args.lines.now (g.K.Sink.written c.args.sink.now) (g.K.Sink.faults c.args.sink.now) in
     let lines = c.line.new.lines in
     let written = g.K.Sink.written c.line.new.sink in

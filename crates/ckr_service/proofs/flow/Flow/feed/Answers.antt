@@ -50,7 +50,7 @@ loop-byte-preserved g c =
           (l.carries holds) (e.ok (l.trusted holds)));
       is_open = e.is_open;
       few = omega (arith, e.few);
-      whole = e.whole;
+      cards = e.cards;
       sink_later = omega arith;
       disk_later = omega arith;
       size = e.size ∙ l.size;
@@ -63,7 +63,7 @@ loop-byte-init g c = record {
   carries = λ holds. nothing_yet g.D.Disk.content c.args.self.now (g.K.Sink.written c.args.sink.now);
   is_open = c.requires.is_open;
   few = omega arith;
-  whole = c.requires.whole;
+  cards = c.requires.cards;
   sink_later = omega arith;
   disk_later = omega arith;
   size = refl;

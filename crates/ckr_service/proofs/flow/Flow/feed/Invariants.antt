@@ -2,7 +2,7 @@ use Rattle.std.proofs.Common.{◌≡◌, ◌≤◌, ◌+◌, length, take}
 use Rattle.ckr_desk.specs.Soundness.{IsTrusted}
 use Rattle.ckr_desk.specs.State.{IsOpen, disk_of}
 use Rattle.ckr_service.specs.Stops.{Goes}
-use Rattle.ckr_service.specs.Sessions.{HasWholeCards}
+use Rattle.ckr_service.specs.Sessions.{HasFewCards}
 use Rattle.ckr_service.specs.Flows.{Carries}
 use Rattle.ckr_service.proofs.flow.Flow.feed.Given as goal
 
@@ -15,7 +15,7 @@ invariant-loop-byte g l = record {
       → Carries g.D.Disk.content l.fn.self l.self (take l.byte-index l.piece) (g.K.Sink.written l.fn.sink) (g.K.Sink.written l.sink);
   is_open : IsOpen l.self.session.clerk.desk;
   few : l.self.session.number + length l.self.partial.items ≤ l.fn.self.session.number + length l.fn.self.partial.items + l.byte-index;
-  whole : HasWholeCards l.self.session;
+  cards : HasFewCards l.self.session;
   sink_later : g.K.Sink.faults l.fn.sink ≤ g.K.Sink.faults l.sink;
   disk_later : g.D.Disk.faults (disk_of l.fn.self.session.clerk.desk) ≤ g.D.Disk.faults (disk_of l.self.session.clerk.desk);
   size : g.D.Disk.size (disk_of l.self.session.clerk.desk) ≡ g.D.Disk.size (disk_of l.fn.self.session.clerk.desk);

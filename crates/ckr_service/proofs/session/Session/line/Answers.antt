@@ -1,13 +1,14 @@
-use Rattle.std.proofs.Common.{◌≡◌, ◌+◌, ◌∙◌, ap, refl, sym, subst, List, ℕ, OnOk, IfErr, ◌++◌}
+use Rattle.std.proofs.Common.{◌≡◌, ◌≤◌, ◌+◌, ◌*◌, ◌∙◌, ap, refl, sym, subst, List, ℕ, length, OnOk, IfErr, ◌++◌}
 use Rattle.ckr_desk.specs.State.{disk_of}
 use Rattle.ckr_cards.specs.declared.cutter.Line.{Line}
+use Rattle.ckr_cards.specs.Card.{stored_line}
 use Rattle.ckr_cards.specs.Session.{handed_before, handed_alone}
 use Rattle.ckr_service.specs.Lines.{telling}
 use Rattle.ckr_service.specs.Service.{HaltsSo, HaltsTelling, ServesTelling, seen, staffed_of}
 use Rattle.ckr_service.specs.Stops.{Stopped}
 use Rattle.ckr_service.specs.Sessions.{standing_of, cards_left, cards_with}
 use Rattle.ckr_service.proofs.Service.Tellings.{serves_behind_quiet, waiting_with}
-use Rattle.ckr_service.proofs.Cards.{AreWhole, whole_behind, on_ok}
+use Rattle.ckr_service.proofs.Cards.{few_behind, on_ok}
 use Rattle.ckr_service.proofs.Calls.Halts.{halts_before_on, halts_behind_on, halts_quiet_on, memory_behind}
 use Rattle.ckr_service.proofs.Calls.Stops.{goes_then_on}
 use Rattle.ckr_service.proofs.session.Session.line.Goals as goal
@@ -25,7 +26,7 @@ returns-clause-serves g c holds =
     let both = serves_behind_quiet lines.failed written faults c.serve_line.result (seen content old) (seen content c.end_before.new.clerk) (seen content new) _ _ lines.text c.end_before.new.out to
     (c.in_ok-end_before.ensures.serves holds) (c.serve_line.ensures.serves (c.in_ok-end_before.ensures.trusted holds)) in
     subst (λ (k : Line). OnOk c.serve_line.result (ServesTelling (seen content old) (seen content new) (handed_before k s.cards ++ handed_alone k s.number c.args.text.now) (waiting_with lines.failed written faults lines.text) to))
-    c.line-kind.ensures.kind both
+    c.card-kind.ensures.kind both
 
 pub returns-clause-halt : goal.returns-clause-halt
 returns-clause-halt g c holds =
@@ -41,18 +42,19 @@ returns-clause-halt g c holds =
     (o.goes holds) (o.serves holds) (c.serve_line.ensures.halt (o.trusted holds)) in
     subst (λ (k : Line). IfErr c.serve_line.result (λ halt. Stopped d.content d.moment d.left_since d.size old.desk (disk_of c.serve_line.new.clerk.desk)
     (HaltsTelling halt (staffed_of d.content old) (handed_before k s.cards ++ handed_alone k s.number c.args.text.now) (waiting_with lines.failed written faults lines.text) to)))
-    c.line-kind.ensures.kind both
+    c.card-kind.ensures.kind both
 
-pub returns-clause-whole : goal.returns-clause-whole
-returns-clause-whole g c =
+pub returns-clause-cards : goal.returns-clause-cards
+returns-clause-cards g c =
     let old = c.args.self.now in
-    let kind = c.line-kind.result in
-    let behind : AreWhole (cards_with kind (cards_left kind old.deck.items) c.args.text.now) (old.number + 1) =
-    whole_behind kind old.deck.items c.args.text.now old.number (record { whole = c.requires.whole.whole; few = c.requires.whole.few }) in
-    let items : cards_with kind (cards_left kind old.deck.items) c.args.text.now ≡ c.keep_card.new.deck.items =
-    sym (c.in_ok-keep_card.ensures ∙ ap (λ l. cards_with kind l c.args.text.now) c.in_ok-end_before.ensures.deck) in
-    let all = subst (λ (l : List ℕ). AreWhole l (old.number + 1)) items behind in
-    on_ok c.serve_line.result _ (record { whole = all.whole; few = all.few })
+    let kind = c.card-kind.result in
+    let card : List ℕ = stored_line c.args.text.now in
+    let cards : cards_with kind (cards_left kind old.deck) card ≡ c.keep_card.new.deck =
+    sym (c.in_ok-keep_card.ensures ∙ ap (λ l. cards_with kind l c.stored_line-card.result) c.in_ok-end_before.ensures.deck
+    ∙ ap (λ l. cards_with kind (cards_left kind old.deck) l) c.stored_line-card.ensures) in
+    on_ok c.serve_line.result _ (record {
+      few = subst (λ (l : List ℕ). length l ≤ 81 * (old.number + 1)) cards (few_behind kind old.deck c.args.text.now old.number c.requires.cards.few);
+    })
 
 pub returns-in_err-end_before-clause-halt : goal.returns-in_err-end_before-clause-halt
 returns-in_err-end_before-clause-halt g c holds =
@@ -66,7 +68,7 @@ returns-in_err-end_before-clause-halt g c holds =
     halts_quiet_on d.content d.moment d.left_since d.size c.from_residual.result old disk _ (waiting_with lines.failed written faults lines.text) (waiting_with lines.failed written faults c.end_before.new.out) c.requires.fresh refl
     (subst (λ (k : Line). IfErr c.from_residual.result (λ halt. Stopped d.content d.moment d.left_since d.size old.desk disk
     (HaltsSo halt (staffed_of d.content old) (handed_before k s.cards ++ handed_alone k s.number c.args.text.now) c.args.lines.now.text c.end_before.new.out)))
-    c.line-kind.ensures.kind
+    c.card-kind.ensures.kind
     (halts_before_on d.content d.moment d.left_since d.size c.from_residual.result c.in_err-end_before.field-0.0 old disk _ _ _ _ c.from_residual.ensures.1 (c.in_err-end_before.ensures.halt holds)))
 
 pub returns-in_err-keep_card-clause-halt : goal.returns-in_err-keep_card-clause-halt
@@ -82,7 +84,7 @@ returns-in_err-keep_card-clause-halt g c holds =
     halts_quiet_on d.content d.moment d.left_since d.size c.from_residual-in_err-keep_card.result old (disk_of new.desk) _ (waiting_with lines.failed written faults lines.text) (waiting_with lines.failed written faults c.end_before.new.out) c.requires.fresh refl
     (subst (λ (k : Line). IfErr c.from_residual-in_err-keep_card.result (λ halt. Stopped d.content d.moment d.left_since d.size old.desk (disk_of new.desk)
     (HaltsSo halt (staffed_of d.content old) (handed_before k s.cards ++ handed_alone k s.number c.args.text.now) c.args.lines.now.text c.end_before.new.out)))
-    c.line-kind.ensures.kind
+    c.card-kind.ensures.kind
     (memory_behind d.content d.moment d.left_since d.size c.from_residual-in_err-keep_card.result old new _ _ _ _ _ _ (o.goes holds) (o.serves holds) c.from_residual-in_err-keep_card.ensures.1))
 
 pub returns-clause-goes : goal.returns-clause-goes
