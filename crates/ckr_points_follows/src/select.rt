@@ -89,12 +89,12 @@ fn may_be_beside_all(tables: &Tables, run: &RunNow<'_>, lines: &[Run]) -> bool
 }
 
 /// Whether no uses of a selected run that isn't ended hold against those of this run. It looks at the decks of the selected runs
-/// alone, and at no line before the first run that has not ended.
+/// alone, at no line before the first run that has not ended, and at none behind the last one that ever left the queue.
 fn may_hold(tables: &Tables, run: &RunNow<'_>) -> bool
     requires { IsRunNow run.now }
     ensures { result ≡ may_hold tables.now.desk (row_now run.now) }
 {
-    may_be_beside_all(tables, run, tables.unended())
+    may_be_beside_all(tables, run, tables.begun())
 }
 
 /// Whether the selection of a run without RESTART names nothing that it goes on from.

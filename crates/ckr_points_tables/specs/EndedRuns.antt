@@ -1,8 +1,8 @@
--- Runs that have ended.
+-- Runs that have ended, and those that wait as they were submitted.
 use Rattle.std.specs.Prelude.{◌≡◌, ℕ, zero, suc, Bool, true, false, List, [], ◌∷◌}
 use Rattle.ckr_points.specs.declared.run.Run.{Run}
 use Rattle.ckr_points.specs.declared.run.RunState.{RunState}
-use Rattle.ckr_points.specs.declared.run.RunState.TheVariants.{Ended, Denied, Purged}
+use Rattle.ckr_points.specs.declared.run.RunState.TheVariants.{Queued, Ended, Denied, Purged}
 
 -- whether a run in this state has ended: no event brings it further
 abbrev pub has_ended : RunState → Bool
@@ -16,3 +16,9 @@ abbrev pub AreEnded : ℕ → List Run → Type 0
 AreEnded zero lines = Unit {0}
 AreEnded (suc count) [] = ⊥
 AreEnded (suc count) (line ∷ lines) = (has_ended line.state ≡ true) × AreEnded count lines
+
+-- the runs behind so many wait in the queue
+abbrev pub AreWaiting : ℕ → List Run → Type 0
+AreWaiting count [] = Unit {0}
+AreWaiting zero (line ∷ lines) = (line.state ≡ Queued) × AreWaiting zero lines
+AreWaiting (suc count) (line ∷ lines) = AreWaiting count lines

@@ -4,7 +4,7 @@ use Rattle.std.specs.Option.{option_map}
 use Rattle.ckr_base.specs.RoomyLists.{Roomy}
 use Rattle.ckr_points_tables.specs.declared.run_table.WrittenEntry.{WrittenEntry}
 use Rattle.ckr_points_tables.specs.declared.tables.Tables.TheInside.{Inside}
-use Rattle.ckr_points_tables.specs.EndedRuns.{AreEnded}
+use Rattle.ckr_points_tables.specs.EndedRuns.{AreEnded, AreWaiting}
 use Rattle.ckr_points_tables.specs.Invariant.{AreKept}
 use Rattle.ckr_points_tables.specs.View.{RoomyTables, next_of, room_of, rows_of, seen_under, table_in, written_of}
 
@@ -29,7 +29,8 @@ tables_seen a = record {
 abbrev pub IsKept : Inside → Type 0
 IsKept a = AreKept a.library.sets a.lines.items a.tables.items a.index a.spare.marks.items a.writings.items
 
--- what is kept, and the mark of ended runs, which no view has
+-- what is kept, and the marks of ended runs and of those that wait, which no view has
 pub record IsSound (a : Inside) : Type 0 where
   pub kept : IsKept a
   pub ended : AreEnded a.ended a.lines.items
+  pub waits : AreWaiting a.changed a.lines.items

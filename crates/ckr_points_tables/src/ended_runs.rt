@@ -1,5 +1,5 @@
-//! How many runs, from the first one on, have ended.
-ghost use Rattle.std.specs.Prelude.{◌≡◌, ◌≤◌, drop, length};
+//! The runs from the first one on that have ended, and those behind them.
+ghost use Rattle.std.specs.Prelude.{◌≡◌, ◌≤◌, ◌-◌, drop, length, take};
 ghost use Rattle.ckr_points_tables.specs.EndedRuns.{has_ended, AreEnded};
 
 use ckr_points::{Run, RunState};
@@ -24,10 +24,11 @@ pub(crate) fn count_ended(lines: &[Run], least: usize) -> usize
     lines.len()
 }
 
-/// The lines behind the first so many.
-pub(crate) fn lines_behind(lines: &[Run], count: usize) -> &[Run]
-    requires { count ≤ length lines.now }
-    ensures { result.now ≡ drop count lines.now }
+/// The lines from this place on, and before that one.
+pub(crate) fn lines_between(lines: &[Run], from: usize, to: usize) -> &[Run]
+    requires { from ≤ length lines.now }
+    ensures { result.now ≡ take (to - from) (drop from lines.now) }
 {
-    &lines[count..]
+    let behind = &lines[from..];
+    &behind[..to.saturating_sub(from).min(behind.len())]
 }

@@ -107,6 +107,7 @@ impl Tables {
         put_at(&mut self.index, before, 0);
         put_at(&mut self.index, after, number);
         self.ended = count_ended(self.lines.as_slice(), self.ended.min(place));
+        self.changed = self.changed.max(number as usize);
     }
 
     /// A deck is submitted. There is room for its run.

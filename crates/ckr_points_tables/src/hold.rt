@@ -42,6 +42,7 @@ impl Tables {
         put_at(&mut self.index, before, 0);
         put_at(&mut self.index, after, job);
         self.ended = self.ended.min(place);
+        self.changed = self.changed.max(job as usize);
     }
 }
 

@@ -19,6 +19,7 @@ impl Tables {
         let place = job as usize - 1;
         release_run(&mut self.lines[place]);
         self.ended = self.ended.min(place);
+        self.changed = self.changed.max(job as usize);
     }
 }
 

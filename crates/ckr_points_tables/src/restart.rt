@@ -50,6 +50,7 @@ impl Tables {
         put_at(&mut self.index, before, 0);
         put_at(&mut self.index, after, job);
         self.ended = self.ended.min(place);
+        self.changed = self.changed.max(job as usize);
     }
 
     /// How many records the step had taken at the first entry of an identifier that a data set keeps. None exactly where it keeps none.

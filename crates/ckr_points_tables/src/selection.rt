@@ -375,5 +375,6 @@ impl Tables {
         put_at(&mut self.index, before, 0);
         put_at(&mut self.index, Some(initiator), number);
         self.ended = self.ended.min(place);
+        self.changed = self.changed.max(number as usize);
     }
 }

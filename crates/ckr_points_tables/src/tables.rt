@@ -1,15 +1,16 @@
 //! The tables of the desk.
-ghost use Rattle.std.specs.Prelude.{◌≡◌, ℕ, ◌≤◌, ◌<◌, [], Bool, Some, IsTrue, OnOk, IsOk, drop, length, map, replicate, slice_get, true};
+ghost use Rattle.std.specs.Prelude.{◌≡◌, ℕ, ◌≤◌, ◌<◌, [], Bool, Some, IsTrue, OnOk, IsOk, length, map, replicate, slice_get, true};
 ghost use Rattle.std.specs.List.{list_all};
 ghost use Rattle.std.specs.Option.{option_copied, option_map};
 ghost use Rattle.ckr_library.specs.NameMaps.{EachEntry};
 ghost use Rattle.ckr_points.specs.Rows.{no_tables, run_of, holding_of, RunRow, TableSet};
 ghost use Rattle.ckr_points.specs.declared.run.Run.{Run as LineOfRun};
-ghost use Rattle.ckr_points_tables.specs.EndedRuns.{has_ended, AreEnded};
+ghost use Rattle.ckr_points.specs.declared.run.RunState.TheVariants.{Queued as QueuedRun};
+ghost use Rattle.ckr_points_tables.specs.EndedRuns.{has_ended};
 ghost use Rattle.ckr_points_tables.specs.RunRows.{IsRunRow};
 ghost use Rattle.ckr_points_tables.specs.View.{facts_in, facts_of, line_of, place_of, run_on, seen_by};
 
-use crate::ended_runs::lines_behind;
+use crate::ended_runs::lines_between;
 use crate::marks_in_order::MarksInOrder;
 use crate::{RunTable, WrittenEntries};
 use ckr_base::NoMemory;
@@ -39,6 +40,8 @@ pub struct Tables {
     pub(crate) tables: Vec<RunTable>,
     /// So many runs, from the first one on, have ended.
     pub(crate) ended: usize,
+    /// The runs behind so many wait in the queue: no event came to them since they were submitted.
+    pub(crate) changed: usize,
     /// By initiator, the number of the run that is on it, or 0.
     pub(crate) index: [u32; 256],
     pub(crate) spare: Spare,
@@ -68,6 +71,7 @@ impl Tables {
             lines: Vec::new(alloc),
             tables: Vec::new(alloc),
             ended: 0,
+            changed: 0,
             index: no_runs_on(),
             spare: Spare {
                 alloc,
@@ -97,14 +101,15 @@ impl Tables {
         self.lines.as_slice()
     }
 
-    /// The lines of the runs behind the first ones, so many that have all ended. A test that each ended run passes is passed by all of
-    /// these exactly where all runs pass it, so that no such test looks at the runs that ended long ago.
-    pub fn unended(&self) -> &[Run]
-        ensures ended { (count : ℕ) × AreEnded count (map line_of self.now.desk.runs) × (result.now ≡ drop count (map line_of self.now.desk.runs)) }
-        ensures tests { (test : LineOfRun → Bool) → ((line : LineOfRun) → has_ended line.state ≡ true → test line ≡ true) → list_all test result.now ≡ list_all test (map line_of self.now.desk.runs) }
+    /// The lines of the runs but for the first ones, which have all ended, and the last ones, to which no event came since they were
+    /// submitted. A test that each ended run passes and each that waits in the queue is passed by all of these exactly where all runs pass
+    /// it, so that no such test looks at the runs that ended long ago, or at a long queue.
+    pub fn begun(&self) -> &[Run]
+        ensures tests { (test : LineOfRun → Bool) → ((line : LineOfRun) → has_ended line.state ≡ true → test line ≡ true) → ((line : LineOfRun) → line.state ≡ QueuedRun → test line ≡ true)
+            → list_all test result.now ≡ list_all test (map line_of self.now.desk.runs) }
         ensures rows { (job : ℕ) (row : RunRow) → run_of self.now.desk job ≡ Some row → IsRunRow job row }
     {
-        lines_behind(self.lines.as_slice(), self.ended)
+        lines_between(self.lines.as_slice(), self.ended, self.changed)
     }
 
     /// What the tables keep of a run besides its line. None exactly where there is no such run.

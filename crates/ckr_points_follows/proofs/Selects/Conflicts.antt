@@ -48,6 +48,10 @@ beside-ended tables row line ended = ap (λ holder. not (holder && holds_beside 
     no-holder Denied e = refl
     no-holder Purged e = refl
 
+-- and beside one that waits in the queue
+pub beside-queued : (tables : TablesModel) (row : RunRow) (line : Run) → line.state ≡ Queued → may_be_beside tables row line ≡ true
+beside-queued tables row line queued = ap (λ state. not (is_holder state && holds_beside tables row line.number)) queued
+
 module _ (tables : TablesModel) (rows : (job : ℕ) (row : RunRow) → run_of tables job ≡ Some row → IsRunRow job row) (row : RunRow) where
   beside : (place : ℕ) (other : RunRow) → slice_get tables.runs place ≡ Some other → may_be_beside tables row (line_of other) ≡ not (is_holder other.state && holds (uses_of row.number row.deck) (uses_of other.number other.deck))
   beside place other there =

@@ -7,6 +7,7 @@ use Rattle.ckr_desk.proofs.Openings.Accepted.{entries-cause, read-so, replay-cau
 use Rattle.ckr_desk.proofs.Openings.Answers.{rose_before}
 use Rattle.ckr_desk.proofs.Openings.Points.{points-known}
 use Rattle.ckr_desk.proofs.Openings.Replay.{handed_on}
+use Rattle.ckr_desk.proofs.Openings.Syncs.{reads-on}
 use Rattle.ckr_desk.specs.Entries.{ArePointsRead, EntriesCause, bad_entry}
 use Rattle.ckr_desk.specs.Replay.{IsReadTo}
 use Rattle.ckr_desk.proofs.opening.read_jobs.Goals as goal
@@ -53,3 +54,13 @@ returns-in_err-points-clause-cause g c =
     (entries-cause later (Rose (d.faults c.args.disk.now) (d.faults c.check_entries.new.disk)) d.told c.args.layout.now (d.content c.args.disk.now) found.jobs.tables.desk found.place error
     (rose_before (d.faults c.args.disk.now) (d.faults c.replay.new.disk) (d.faults c.check_entries.new.disk) c.in_ok-found.ensures.faults) c.in_ok-found.ensures.replayed
     (subst (λ (image : List ℕ). EntriesCause later d.told (bad_entry c.args.layout.now found.jobs.tables.desk image) error) c.in_ok-found.ensures.only_reads.same c.in_err-points.ensures.cause))
+
+pub returns-clause-only_reads : goal.returns-clause-only_reads
+returns-clause-only_reads g c =
+    let d = g.D.Disk in
+    reads-on d.content d.may_leave d.moment d.left_since c.args.disk.now c.replay.new.disk c.check_entries.new.disk c.in_ok-found.ensures.only_reads c.in_ok-points.ensures.only_reads
+
+pub returns-in_err-open-clause-only_reads : goal.returns-in_err-open-clause-only_reads
+returns-in_err-open-clause-only_reads g c =
+    let d = g.D.Disk in
+    reads-on d.content d.may_leave d.moment d.left_since c.args.disk.now c.replay.new.disk c.check_entries.new.disk c.in_ok-found.ensures.only_reads c.in_ok-points.ensures.only_reads

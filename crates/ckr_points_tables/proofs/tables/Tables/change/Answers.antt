@@ -5,7 +5,7 @@ use Rattle.ckr_points_tables.specs.RunChange.{changed, earlier_for, going, holdi
 use Rattle.ckr_points_tables.specs.View.{facts_of}
 use Rattle.ckr_points.specs.declared.run.Run.{Run}
 use Rattle.ckr_points_tables.specs.EndedRuns.{AreEnded}
-use Rattle.ckr_points_tables.proofs.EndedRuns.{ended-set}
+use Rattle.ckr_points_tables.proofs.EndedRuns.{ended-set, waiting-set}
 use Rattle.ckr_points_tables.proofs.Events.{placed_at}
 use Rattle.ckr_points_tables.proofs.Calls.{flags_ok, flags_told, job_ok, read-back, read-twice, inside_lines, inside_tables, inside_writings, fits_ok, may_ok, desk_ok, kept_ok}
 use Rattle.ckr_points_tables.proofs.tables.Tables.change.Goals as goal
@@ -73,7 +73,7 @@ count_ended-self-inside-requires c =
     (ended-set c.self.inside.ended (c.job-number.result - 1) c.self.inside.lines.items _ c.min.result c.min.ensures c.self.invariant.ended)
 
 -- the run goes on by the event as the tables do
-run-goes : (c : goal.After-self-4-1) → (
+run-goes : (c : goal.After-self-5-1) → (
     going c.change_run.new.line (facts_of c.change_run.new.table) c.change_run.new.library.sets
     ≡ changed holding_kit (earlier_for c.args.event.now (points_in c.self.inside.tables.items) c.index_mut.result.now.number (facts_of c.index_mut-2.result.now)) c.args.event.now
     (going c.index_mut.result.now (facts_of c.index_mut-2.result.now) c.self.inside.library.sets))
@@ -103,6 +103,9 @@ invariant_of-self c = record {
       ∙ ap (put_at c.change_run.new.line.initiator c.job-number.result) (c.put_at.ensures.index ∙ ap (λ (line : Run). put_at line.initiator 0 c.self.inside.index) before)
       );
   ended = subst (AreEnded c.count_ended-self-inside.result) c.as_slice-2.ensures.value c.count_ended-self-inside.ensures;
+  waits =
+      let at = placed_at c.args.self.now.desk c.args.event.now None c.requires.change (c.requires.follows None) in
+      waiting-set c.self.inside.changed c.job-number.result c.self.inside.lines.items _ c.max-self-inside.result (omega (arith, at.0, c.job-number.ensures)) c.max-self-inside.ensures c.self.invariant.waits;
 }
 
 pub returns : goal.returns

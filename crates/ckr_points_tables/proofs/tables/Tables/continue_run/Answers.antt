@@ -7,7 +7,7 @@ use Rattle.ckr_points_tables.specs.Restart.{line_on}
 use Rattle.ckr_points_tables.specs.Selection.{IsResumed, entries_in, resumed}
 use Rattle.ckr_points_tables.specs.View.{facts_of, rows_of, seen_under, table_in, written_of}
 use Rattle.ckr_points_tables.specs.declared.run_table.RunTable.{RunTable}
-use Rattle.ckr_points_tables.proofs.EndedRuns.{ended-set}
+use Rattle.ckr_points_tables.proofs.EndedRuns.{ended-set, waiting-set}
 use Rattle.ckr_points_tables.proofs.ContinuedCalls.{continued_placed, continued_low, desk_continued, earlier_inside, kept_continued, line_read, next_at, next_fits, next_none, next_room, next_syschk, nothing-there, parts, own_there, at_there, table_read, own_line, own_table}
 use Rattle.ckr_points_tables.proofs.tables.Tables.continue_run.Goals as goal
 
@@ -50,7 +50,7 @@ index_mut-requires c = let at = continued_placed c.self.inside c.args.self.now c
 pub index_mut-requires-2 : goal.index_mut-requires-2
 index_mut-requires-2 c = let at = continued_placed c.self.inside c.args.self.now c.self.view_is c.self.invariant.kept c.args.number c.args.initiator c.args.earlier (c.args.earlier - 1) c.args.step c.args.id.now (omega (arith, c.requires.earlier)) c.requires.follows in omega (arith, at.tabled, c.self.inside.tables.ok.0)
 
-resumed-so : (c : goal.After-self-3-1) → (let p = parts c.self.inside c.args.self.now c.self.view_is c.self.invariant.kept c.args.number c.args.initiator c.args.earlier (c.args.earlier - 1) c.args.step c.args.id.now (omega (arith, c.requires.earlier)) c.requires.follows c.requires.room c.in-Some.next (sym c.in-Some.ensures.value) c.index.result.now c.index.ensures in
+resumed-so : (c : goal.After-self-4-1) → (let p = parts c.self.inside c.args.self.now c.self.view_is c.self.invariant.kept c.args.number c.args.initiator c.args.earlier (c.args.earlier - 1) c.args.step c.args.id.now (omega (arith, c.requires.earlier)) c.requires.follows c.requires.room c.in-Some.next (sym c.in-Some.ensures.value) c.index.result.now c.index.ensures in
     IsResumed (is_none c.args.id.now) c.args.number c.args.step p.at.marks p.own (facts_of c.in-Some.next) (facts_of c.resume.new.next) c.self.inside.library.sets c.resume.new.library.sets)
 resumed-so c =
     let p = parts c.self.inside c.args.self.now c.self.view_is c.self.invariant.kept c.args.number c.args.initiator c.args.earlier (c.args.earlier - 1) c.args.step c.args.id.now (omega (arith, c.requires.earlier)) c.requires.follows c.requires.room c.in-Some.next (sym c.in-Some.ensures.value) c.index.result.now c.index.ensures in
@@ -60,13 +60,13 @@ resumed-so c =
     (ap (λ all. resumed (entries_in (map written_of all) c.self.inside.library.sets) c.in-Some.next.job.deck c.args.step p.point c.args.id.now) c.as_slice.ensures.value
     ∙ at_there c.self.inside c.args.self.now c.self.view_is c.self.invariant.kept c.args.number c.args.initiator c.args.earlier (c.args.earlier - 1) c.args.step c.args.id.now (omega (arith, c.requires.earlier)) c.requires.follows c.requires.room c.in-Some.next (sym c.in-Some.ensures.value) c.index.result.now c.index.ensures)
 
-goes-as : (c : goal.After-self-3-1) → (let table = (own_table c.self.inside c.args.self.now c.self.view_is c.self.invariant.kept c.args.number c.args.initiator c.args.earlier (c.args.earlier - 1) c.args.step c.args.id.now (omega (arith, c.requires.earlier)) c.requires.follows).0 in facts_of c.go_on_as.new.table ≡ record (facts_of c.resume.new.next) { in_effect = option_or (facts_of c.resume.new.next).in_effect (facts_of table).in_effect })
+goes-as : (c : goal.After-self-4-1) → (let table = (own_table c.self.inside c.args.self.now c.self.view_is c.self.invariant.kept c.args.number c.args.initiator c.args.earlier (c.args.earlier - 1) c.args.step c.args.id.now (omega (arith, c.requires.earlier)) c.requires.follows).0 in facts_of c.go_on_as.new.table ≡ record (facts_of c.resume.new.next) { in_effect = option_or (facts_of c.resume.new.next).in_effect (facts_of table).in_effect })
 goes-as c =
     c.go_on_as.ensures
     ∙ ap (λ (table : RunTable). record (facts_of c.resume.new.next) { in_effect = option_or (facts_of c.resume.new.next).in_effect (facts_of table).in_effect })
     (table_read c.self.inside c.args.self.now c.self.view_is c.self.invariant.kept c.args.number c.args.initiator c.args.earlier (c.args.earlier - 1) c.args.step c.args.id.now (omega (arith, c.requires.earlier)) c.requires.follows c.index_mut-2.result.now c.index_mut-2.ensures.value)
 
-line-goes : (c : goal.After-self-3-1) → (let line = (own_line c.self.inside c.args.self.now c.self.view_is c.self.invariant.kept c.args.number c.args.initiator c.args.earlier (c.args.earlier - 1) c.args.step c.args.id.now (omega (arith, c.requires.earlier)) c.requires.follows).0 in c.go_on.new.line ≡ line_on c.args.initiator line)
+line-goes : (c : goal.After-self-4-1) → (let line = (own_line c.self.inside c.args.self.now c.self.view_is c.self.invariant.kept c.args.number c.args.initiator c.args.earlier (c.args.earlier - 1) c.args.step c.args.id.now (omega (arith, c.requires.earlier)) c.requires.follows).0 in c.go_on.new.line ≡ line_on c.args.initiator line)
 line-goes c = c.go_on.ensures ∙ ap (line_on c.args.initiator) (line_read c.self.inside c.args.self.now c.self.view_is c.self.invariant.kept c.args.number c.args.initiator c.args.earlier (c.args.earlier - 1) c.args.step c.args.id.now (omega (arith, c.requires.earlier)) c.requires.follows c.index_mut.result.now c.index_mut.ensures.value)
 
 pub invariant_of-self-2 : goal.invariant_of-self-2
@@ -82,6 +82,9 @@ invariant_of-self-2 c = record {
       ∙ ap (put_at (Some c.args.initiator) c.args.number) (c.put_at.ensures.index ∙ ap (λ (one : Run). put_at one.initiator 0 c.self.inside.index) (line_read c.self.inside c.args.self.now c.self.view_is c.self.invariant.kept c.args.number c.args.initiator c.args.earlier (c.args.earlier - 1) c.args.step c.args.id.now (omega (arith, c.requires.earlier)) c.requires.follows c.index-2.result.now c.index-2.ensures))
       ));
   ended = ended-set c.self.inside.ended (c.args.number - 1) c.self.inside.lines.items _ c.min-self-inside.result c.min-self-inside.ensures c.self.invariant.ended;
+  waits =
+      let at = continued_placed c.self.inside c.args.self.now c.self.view_is c.self.invariant.kept c.args.number c.args.initiator c.args.earlier (c.args.earlier - 1) c.args.step c.args.id.now (omega (arith, c.requires.earlier)) c.requires.follows in
+      waiting-set c.self.inside.changed c.args.number c.self.inside.lines.items _ c.max-self-inside.result (omega (arith, at.first)) c.max-self-inside.ensures c.self.invariant.waits;
 }
 
 pub returns : goal.returns

@@ -10,7 +10,7 @@ use Rattle.ckr_points_tables.specs.RunChange.{by_step_of, going, holding_kit, pl
 use Rattle.ckr_points_tables.specs.StepEnd.{AreLengthsOf}
 use Rattle.ckr_points_tables.specs.RunJobs.{effective}
 use Rattle.ckr_points_tables.specs.View.{facts_of}
-use Rattle.ckr_points_tables.proofs.EndedRuns.{ended-set}
+use Rattle.ckr_points_tables.proofs.EndedRuns.{ended-set, waiting-set}
 use Rattle.ckr_points_tables.proofs.Calls.{read-back, read-twice}
 use Rattle.ckr_points_tables.proofs.Holds.{placed, fits_ok, lengths_ok, kept_held, desk_held}
 use Rattle.ckr_points_tables.proofs.RunMoves.{of_run-placed}
@@ -64,6 +64,9 @@ invariant_of-self c = record {
       ∙ ap (put_at c.hold_run.new.line.initiator c.args.job) (c.put_at.ensures.index ∙ ap (λ (line : Run). put_at line.initiator 0 c.self.inside.index) before)
       );
   ended = ended-set c.self.inside.ended (c.args.job - 1) c.self.inside.lines.items _ c.min-self-inside.result c.min-self-inside.ensures c.self.invariant.ended;
+  waits =
+      let at = of_run-placed c.args.self.now.desk c.args.job (λ row. (is_running row || is_in_state ReleasedRun row) && lengths_follow c.args.self.now.desk row c.args.lengths.now.items) c.requires.follows.1 in
+      waiting-set c.self.inside.changed c.args.job c.self.inside.lines.items _ c.max-self-inside.result (omega (arith, at.0)) c.max-self-inside.ensures c.self.invariant.waits;
 }
 
 pub returns : goal.returns

@@ -1,5 +1,6 @@
 use Rattle.std.proofs.Common.{◌≡◌, ℕ, zero, suc, ◌≤◌, ap, sym, ◌∙◌, subst, refl, [], length, replicate, slice_index, arith}
 use Rattle.ckr_library.specs.NameMaps.{EachEntry}
+use Rattle.ckr_points_tables.specs.EndedRuns.{AreWaiting}
 use Rattle.ckr_points_tables.specs.Invariant.{AreRuns, IsFilled, IsIndexOf, IsWide}
 use Rattle.ckr_points_tables.proofs.Runs.{index-empty}
 use Rattle.ckr_points_tables.proofs.tables.Tables.new.Goals as goal
@@ -21,4 +22,5 @@ invariant_of-result c = record {
     written = ap length c.new-7.ensures.items ∙ sym (ap length c.new-3.ensures.items);
   };
   ended = tt;
+  waits = subst (AreWaiting 0) (sym c.new-2.ensures.items) tt;
 }

@@ -4,7 +4,7 @@ use Rattle.ckr_points_tables.specs.View.{rows_of, seen_under, table_in, written_
 use Rattle.ckr_points.specs.declared.run.RunState.TheVariants.{Held as HeldRun}
 use Rattle.ckr_points.specs.Follows.{is_in_state}
 use Rattle.ckr_points.specs.Rows.{TablesModel}
-use Rattle.ckr_points_tables.proofs.EndedRuns.{ended-set}
+use Rattle.ckr_points_tables.proofs.EndedRuns.{ended-set, waiting-set}
 use Rattle.ckr_points_tables.proofs.RunMoves.{of_run-placed}
 use Rattle.ckr_points_tables.proofs.Releases.{placed, kept_released, desk_released}
 use Rattle.ckr_points_tables.proofs.tables.Tables.release.Goals as goal
@@ -21,6 +21,9 @@ invariant_of-self c = record {
       subst (λ line. AreKept c.self.inside.library.sets (slice_set c.self.inside.lines.items (c.args.job - 1) line) c.self.inside.tables.items c.self.inside.index c.self.inside.spare.marks.items c.self.inside.writings.items) (sym c.release_run.ensures)
       (kept_released c.self.inside c.args.self.now c.self.view_is c.self.invariant.kept c.args.job c.requires.follows c.index_mut.result.now c.index_mut.ensures.value);
   ended = ended-set c.self.inside.ended (c.args.job - 1) c.self.inside.lines.items _ c.min-self-inside.result c.min-self-inside.ensures c.self.invariant.ended;
+  waits =
+      let at = of_run-placed c.args.self.now.desk c.args.job (is_in_state HeldRun) c.requires.follows.1 in
+      waiting-set c.self.inside.changed c.args.job c.self.inside.lines.items _ c.max-self-inside.result (omega (arith, at.0)) c.max-self-inside.ensures c.self.invariant.waits;
 }
 
 pub returns : goal.returns

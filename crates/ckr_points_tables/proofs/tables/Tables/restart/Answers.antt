@@ -6,7 +6,7 @@ use Rattle.ckr_points_tables.specs.Invariant.{put_at}
 use Rattle.ckr_points_tables.specs.Restart.{HasPassedFor, passed_for, restarted}
 use Rattle.ckr_points_tables.specs.RunChange.{going}
 use Rattle.ckr_points_tables.specs.View.{facts_of, written_of}
-use Rattle.ckr_points_tables.proofs.EndedRuns.{ended-set}
+use Rattle.ckr_points_tables.proofs.EndedRuns.{ended-set, waiting-set}
 use Rattle.ckr_points_tables.proofs.Calls.{read-back, read-twice}
 use Rattle.ckr_points_tables.proofs.Restarts.Calls.{desk_restarted, few_ok, kept_restarted, may_go_back, fits_ok, placed, room_ok}
 use Rattle.ckr_points_tables.proofs.RunMoves.{of_run-placed}
@@ -72,6 +72,10 @@ invariant_of-self c = record {
       ∙ ap (put_at c.restart_run.new.line.initiator c.args.job) (c.put_at.ensures.index ∙ ap (λ (line : Run). put_at line.initiator 0 c.self.inside.index) before)
       );
   ended = ended-set c.self.inside.ended (c.args.job - 1) c.self.inside.lines.items _ c.min-self-inside.result c.min-self-inside.ensures c.self.invariant.ended;
+  waits =
+      let may = c.requires.follows some_code in
+      let at = of_run-placed c.args.self.now.desk c.args.job (may_go_back may.0 c.args.self.now.desk c.args.initiator c.args.checkpoint) may.1 in
+      waiting-set c.self.inside.changed c.args.job c.self.inside.lines.items _ c.max-self-inside.result (omega (arith, at.0)) c.max-self-inside.ensures c.self.invariant.waits;
 }
 
 pub returns : goal.returns

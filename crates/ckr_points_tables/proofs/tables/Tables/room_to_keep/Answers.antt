@@ -47,6 +47,7 @@ invariant_of-self c = record {
     written = length-set c.self.inside.writings.items c.in-Some.place c.reserve_checkpoint.new.entries ∙ c.self.invariant.kept.written;
   };
   ended = c.self.invariant.ended;
+  waits = c.self.invariant.waits;
 }
 
 pub returns-in-Some-clause-desk : goal.returns-in-Some-clause-desk

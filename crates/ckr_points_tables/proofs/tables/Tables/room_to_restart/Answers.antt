@@ -24,6 +24,7 @@ invariant_of-self c = record {
       let here : slice_get tables place ≡ Some old = get-from tables place old inside c.index_mut.ensures.value in
       kept_there c.self.inside.lines.items tables c.self.invariant.kept.runs place old c.reserve_restart.new.table here c.reserve_restart.ensures.facts c.self.inside.library.sets c.self.inside.index c.self.inside.spare.marks.items c.self.inside.writings.items c.self.invariant.kept;
   ended = c.self.invariant.ended;
+  waits = c.self.invariant.waits;
 }
 
 pub returns-in-Some-clause-desk : goal.returns-in-Some-clause-desk

@@ -34,6 +34,7 @@ invariant_of-self c = record {
       (subst (λ marks. AreKept c.self.inside.library.sets c.self.inside.lines.items (slice_set tables place c.reserve_start.new.table) c.self.inside.index marks c.self.inside.writings.items) (sym c.reserve_start.ensures.marks)
       (kept_there c.self.inside.lines.items tables c.self.invariant.kept.runs place old c.reserve_start.new.table here c.reserve_start.ensures.facts c.self.inside.library.sets c.self.inside.index c.self.inside.spare.marks.items c.self.inside.writings.items c.self.invariant.kept));
   ended = c.self.invariant.ended;
+  waits = c.self.invariant.waits;
 }
 
 pub returns-in-Some-clause-desk : goal.returns-in-Some-clause-desk
