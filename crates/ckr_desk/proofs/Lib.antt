@@ -9,3 +9,4 @@ pub mod Trust
 pub mod Continuations
 pub mod MachineRooms
 pub mod Attendances
+pub mod AskedVolumes

@@ -1,5 +1,5 @@
 -- What holds of the jobs in memory holds behind an event that follows.
-use Rattle.std.proofs.Common.{◌≡◌, ◌+◌, ◌≤◌, ◌==◌, ◌&&◌, ◌||◌, ℕ, zero, suc, Bool, true, false, not, cond, List, [], ◌∷◌, ◌++◌, map, filter, length, refl, ap, sym, ◌∙◌, subst, Option, None, Some, arith, length-append}
+use Rattle.std.proofs.Common.{◌≡◌, ◌==◌, ◌&&◌, ◌||◌, ℕ, zero, suc, Bool, true, false, not, cond, List, ◌∷◌, map, filter, refl, ap, sym, ◌∙◌, subst, Option, None, Some, arith, []}
 use Rattle.std.proofs.lemmas.Bool.{and_from, false≢true, or_right}
 use Rattle.std.specs.Prelude.{if◌then◌else◌, nat_eq, nat_le}
 use Rattle.std.specs.List.{AllByRecursion}
@@ -27,79 +27,23 @@ use Rattle.ckr_points.specs.declared.run.RunState.TheVariants.{Queued, On, Held 
 use Rattle.ckr_points.specs.Follows.{ended_follows, follows, is_checkpoint, is_empty, is_free, is_in_state, is_rewrite, is_running, is_within, lengths_follow, may_hold, may_restart_again, may_start, of_run, of_step, selected_follows, started_follows, state_number}
 use Rattle.ckr_points.specs.Restart.{after_abnormal, after_coded, after_ended, after_event, after_restarted, by_step, carried_point, kept_at, place_of, spliced, step_in}
 use Rattle.ckr_points.specs.Rows.{RunRow, StartPoint, TableSet, TablesModel, run_of, standing_of, step_of_run, table_ways, with_row}
-use Rattle.ckr_queue.specs.declared.entry.QueueEntry.{QueueEntry}
 use Rattle.ckr_library.specs.NameMaps.{Named}
 use Rattle.ckr_points_invariant.proofs.Holders.Rows.{queued-is}
 use Rattle.ckr_desk_turn.proofs.AdmittedSteps.{spliced-here}
 use Rattle.ckr_points_invariant.proofs.Steps.Events.{on-holds}
 use Rattle.ckr_points_invariant.proofs.Marks.Points.{point_at-new}
-use Rattle.ckr_points_tables.specs.Invariant.{MayFollow, MaySubmit}
 use Rattle.ckr_desk_turn.specs.Invariant.{is_off, is_on_one}
-use Rattle.ckr_desk_turn.specs.Queue.{AreNumbered}
 use Rattle.ckr_desk_turn.specs.Spelling.{IsCode}
 use Rattle.ckr_desk_memory.specs.Invariant.{IsAnyAccepted, IsPlacedRow, is_in_step}
-use Rattle.ckr_desk_memory.specs.Parts.{AreQueued, step_seen}
+use Rattle.ckr_desk_memory.specs.Parts.{step_seen}
 use Rattle.ckr_desk_memory.specs.declared.jobs.RunningStep.{RunningStep}
 use Rattle.ckr_desk_memory.specs.View.{RunningStepView}
-use Rattle.ckr_desk_memory.specs.EventChanges.{MayQueue, queue_after, without_run}
+use Rattle.ckr_desk_memory.specs.EventChanges.{without_run}
 use Rattle.ckr_desk_memory.proofs.Continuations.{by-continuation}
 use Rattle.ckr_desk_memory.proofs.Starts.Steps.{row-among}
 use Rattle.ckr_desk_memory.proofs.Extents.{tested, tested-step}
-use Rattle.ckr_desk_memory.proofs.Queue.{held-is, may-queue, on-is, queue-behind, released-is}
-use Rattle.ckr_desk_memory.proofs.Runs.{by-run, by-step, by-submission, each-put, numbered-more, numbers-stay}
-
--- the number of a deck that is submitted
-next_number : (layout : Layout) (tables : TablesModel) (job : ℕ) (cards : List ℕ) (deck : Option Job) → follows layout tables (Submitted job cards) deck ≡ true → job ≡ suc (length tables.runs)
-next_number layout tables job cards deck e = equal-true job (suc (length tables.runs)) (and-first _ _ (and-first _ (is_some deck) e))
-
--- ---- the numbers of the runs
-
-numbered_submitted : (layout : Layout) (tables : TablesModel) (job : ℕ) (cards : List ℕ) (deck : Option Job) → follows layout tables (Submitted job cards) deck ≡ true → AreNumbered 1 tables.runs → AreNumbered 1 (after_event (Submitted job cards) deck tables).runs
-numbered_submitted layout tables job cards None e numbered = numbered
-numbered_submitted layout tables job cards (Some deck) e numbered =
-    let is : 1 + length tables.runs ≡ job = omega (arith, next_number layout tables job cards (Some deck) e) in
-    subst (λ n. AreNumbered 1 (tables.runs ++ queued_run n deck ∷ [])) is (numbered-more 1 tables.runs deck numbered)
-
-pub numbered-behind : (layout : Layout) (tables : TablesModel) (event : Event) (deck : Option Job) → follows layout tables event deck ≡ true → AreNumbered 1 tables.runs → AreNumbered 1 (after_event event deck tables).runs
-numbered-behind layout tables event deck e numbered =
-    by-submission (λ event. follows layout tables event deck ≡ true → AreNumbered 1 (after_event event deck tables).runs)
-    (λ job cards e. numbered_submitted layout tables job cards deck e numbered)
-    (λ event other e. (numbers-stay tables numbered layout event deck other e).numbered)
-    event e
-
-few_submitted : (layout : Layout) (tables : TablesModel) (job : ℕ) (cards : List ℕ) (deck : Option Job) → follows layout tables (Submitted job cards) deck ≡ true → MaySubmit (Submitted job cards) deck → length tables.runs ≤ 9999999
-    → length (after_event (Submitted job cards) deck tables).runs ≤ 9999999
-few_submitted layout tables job cards None e submits few = few
-few_submitted layout tables job cards (Some deck) e submits few =
-    let is = next_number layout tables job cards (Some deck) e in
-    let most : job ≤ 9999999 = nat_le-true job 9999999 (and-first _ _ (and-first _ _ (and-first _ _ (and-first _ _ submits)))) in
-    omega (arith, length-append tables.runs (queued_run job deck ∷ []))
-
-few-behind : (layout : Layout) (tables : TablesModel) (event : Event) (deck : Option Job) → follows layout tables event deck ≡ true → MaySubmit event deck → AreNumbered 1 tables.runs → length tables.runs ≤ 9999999
-    → length (after_event event deck tables).runs ≤ 9999999
-few-behind layout tables event deck e submits numbered few =
-    by-submission (λ event. follows layout tables event deck ≡ true → MaySubmit event deck → length (after_event event deck tables).runs ≤ 9999999)
-    (λ job cards e submits. few_submitted layout tables job cards deck e submits few)
-    (λ event other e submits. subst (λ n. n ≤ 9999999) (sym (numbers-stay tables numbered layout event deck other e).long) few)
-    event e submits
-
--- the queue stays that of the tables
-pub queued-behind : (desk after : TablesModel) (queue now : List QueueEntry) (event : Event) (deck : Option Job) → MayFollow desk event deck → MaySubmit event deck → AreQueued desk queue
-    → after ≡ after_event event deck desk → now ≡ queue_after after event deck queue → AreQueued after now
-queued-behind desk after queue now event deck follow submits are is queue_is =
-    subst (λ t. AreQueued t now) (sym is) (subst (λ q. AreQueued (after_event event deck desk) q) (sym (queue_is ∙ ap (λ t. queue_after t event deck queue) is)) (record {
-      numbered = numbered-behind follow.0 desk event deck follow.1 are.numbered;
-      few = few-behind follow.0 desk event deck follow.1 submits are.numbered are.few;
-      same = ap (queue_after (after_event event deck desk) event deck) are.same ∙ sym (queue-behind follow.0 desk event deck are.numbered follow.1);
-    }))
-
--- what the tables follow as they are seen
-pub follow-inside : (desk seen : TablesModel) (event : Event) (deck : Option Job) → desk ≡ seen → MayFollow seen event deck → MayFollow desk event deck
-follow-inside desk seen event deck same follow = (follow.0, ap (λ t. follows follow.0 t event deck) same ∙ follow.1)
-
-pub may-go : (desk seen : TablesModel) (queue : List QueueEntry) (event : Event) (deck : Option Job) → desk ≡ seen → AreQueued desk queue → MayFollow seen event deck → MayQueue event queue
-may-go desk seen queue event deck same are follow =
-    subst (MayQueue event) (sym are.same) (may-queue follow.0 desk event deck are.numbered (ap (λ t. follows follow.0 t event deck) same ∙ follow.1))
+use Rattle.ckr_desk_memory.proofs.Queue.{held-is, on-is, released-is}
+use Rattle.ckr_desk_memory.proofs.Runs.{by-run, by-step, each-put}
 
 -- ---- the places and codes of the runs
 

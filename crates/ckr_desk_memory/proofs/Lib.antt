@@ -13,6 +13,7 @@ pub mod AcceptedDecks
 pub mod Masters
 pub mod RecordCounts
 pub mod Rewrites
+pub mod RunNumbers
 pub mod Invariant
 pub mod EffectEntries
 pub mod EntryPoints

@@ -3,5 +3,6 @@ pub mod Units
 pub mod Initiator
 pub mod Series
 pub mod Due
+pub mod Verdicts
 pub mod Operator
 pub mod Outcomes

@@ -16,9 +16,9 @@ pub const SIZE: u64 = 500_512;
 /// A smaller one, and its disk.
 const SMALL_CARDS: &[u8] = b"BOOK 1000\nVOLUME VOL001 2000\n";
 
-const SMALL_SIZE: u64 = 3_512;
+pub const SMALL_SIZE: u64 = 3_512;
 
-const STREAM: &[u8] =
+pub const STREAM: &[u8] =
     b"//COPY1 JOB\n//S1 EXEC PGM=COPY\n//SYSUT1 DD *\nALPHA\nBETA\n/*\n//SYSUT2 DD DSN=OUT.A,DISP=(NEW,CATLG),SPACE=(80,10)\n//\n$T 1 9\n$R OUT.A\n";
 
 const TEXT: &[u8] =
@@ -234,60 +234,6 @@ fn a_run_that_was_running_goes_by_the_rules_when_the_disk_is_opened_again(
     let alloc = rt.alloc();
     for (place, row) in RUNNING.iter().enumerate() {
         assert!(rt; goes_by_the_rules(alloc, row)?, "row {place}");
-    }
-    Ok(())
-}
-
-/// Cards of a disk whose book is full within the stream, and the text up to there.
-static FULL_BOOKS: [(&[u8], &[u8]); 2] = [
-    (
-        b"BOOK 592\nVOLUME VOL001 2000\n",
-        b"J0000001 COPY1 SUBMITTED\nI1 J0000001 SELECTED\n",
-    ),
-    (b"BOOK 574\nVOLUME VOL001 2000\n", b""),
-];
-
-/// Whether the stream is broken off so, and the disk opens again.
-fn is_full(alloc: Global, row: &(&[u8], &[u8])) -> Result<bool, Fail> {
-    let (cards, text) = *row;
-    let disk = formatted(alloc, cards, SMALL_SIZE, None, None)?;
-    let ended = call(alloc, "run", STREAM, disk)?;
-    let again = call(alloc, "run", b"", ended.disk)?;
-    Ok(ended.status == 3 && ended.text.as_slice() == text && again.status == 0)
-}
-
-#[test]
-fn the_book_is_full(rt: HostRuntime) -> Result<(), Fail> {
-    let alloc = rt.alloc();
-    for (place, row) in FULL_BOOKS.iter().enumerate() {
-        assert!(rt; is_full(alloc, row)?, "row {place}");
-    }
-    Ok(())
-}
-
-/// Cards of a disk, and the status and the text of a call with one deck on it.
-static BOOKS: [(&[u8], u8, &[u8]); 2] = [
-    (b"BOOK 334\nVOLUME VOL001 2000\n", 3, b""),
-    (
-        b"BOOK 335\nVOLUME VOL001 2000\n",
-        0,
-        b"J0000001 J SUBMITTED\n",
-    ),
-];
-
-/// Whether a deck is answered so.
-fn is_submitted_so(alloc: Global, row: &(&[u8], u8, &[u8])) -> Result<bool, Fail> {
-    let (cards, status, text) = *row;
-    let deck = b"//J JOB\n//S1 EXEC PGM=IEFBR14\n//*\n//*\n";
-    let (ended, written) = text_of(alloc, cards, SMALL_SIZE, deck)?;
-    Ok(ended == status && written.as_slice() == text)
-}
-
-#[test]
-fn a_deck_needs_its_room_of_the_book(rt: HostRuntime) -> Result<(), Fail> {
-    let alloc = rt.alloc();
-    for (place, row) in BOOKS.iter().enumerate() {
-        assert!(rt; is_submitted_so(alloc, row)?, "row {place}");
     }
     Ok(())
 }

@@ -34,7 +34,8 @@ use Rattle.ckr_desk_memory.specs.Start.{HasNew, has_sets}
 use Rattle.ckr_desk_memory.specs.View.{JobsView, PointView, RunningStepView, begun as at_first, resumed}
 use Rattle.ckr_desk_memory.proofs.RunningSteps.Again.{again-cases, is-back}
 use Rattle.ckr_desk_memory.proofs.AcceptedRuns.{accepted-behind}
-use Rattle.ckr_desk_memory.proofs.Invariant.{all-filtered, numbered-behind, placed-behind}
+use Rattle.ckr_desk_memory.proofs.Invariant.{all-filtered, placed-behind}
+use Rattle.ckr_desk_memory.proofs.RunNumbers.{numbered-behind}
 use Rattle.ckr_desk_memory.proofs.Extents.{laid-behind}
 use Rattle.ckr_desk_memory.proofs.Queue.{run-there, step-there}
 use Rattle.ckr_desk_memory.proofs.RunningSteps.Entries.{entered-all}

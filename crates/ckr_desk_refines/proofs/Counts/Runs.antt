@@ -5,7 +5,7 @@ use Rattle.std.proofs.lemmas.Bool.{false≢true}
 use Rattle.std.proofs.lemmas.List.{length-append}
 use Rattle.std.proofs.lemmas.List.Sums.{sum_by-cons}
 use Rattle.ckr_base.proofs.Bools.{and-first, and-second}
-use Rattle.ckr_desk_memory.proofs.Invariant.{numbered-behind}
+use Rattle.ckr_desk_memory.proofs.RunNumbers.{numbered-behind}
 use Rattle.ckr_desk_memory.proofs.Runs.{by-submission, numbers-stay}
 use Rattle.ckr_desk_turn.specs.Queue.{AreNumbered}
 use Rattle.ckr_events.specs.declared.event.Event.{Event}

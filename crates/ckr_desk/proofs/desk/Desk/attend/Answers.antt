@@ -11,7 +11,8 @@ use Rattle.ckr_desk_turn.specs.declared.taking.Taking.TheVariants.{Taken}
 use Rattle.ckr_queue.specs.Mounts.{MountTable, held_at, units_with, with_held}
 use Rattle.ckr_queue.specs.Units.{are_mounted}
 use Rattle.ckr_volumes.specs.declared.layout.Layout.{Layout}
-use Rattle.ckr_desk.proofs.Attendances.{HasAsked, attempt-at, attempt-by, attended-failed, attended-plainly, attended-taking, attended-untaken, held-at-hand, planned-by, unasked-alike, unspent-so, unwanted-at-hand, wanted-none, wanted-some}
+use Rattle.ckr_desk.proofs.Attendances.{attempt-at, attended-failed, attended-plainly, attended-taking, attended-untaken, held-at-hand, planned-by, unspent-so, unwanted-at-hand}
+use Rattle.ckr_desk.proofs.AskedVolumes.{HasAsked, attempt-by, unasked-alike, wanted-none, wanted-some}
 use Rattle.ckr_desk.proofs.MachineRooms.{takes-none, takes_by}
 use Rattle.ckr_desk.proofs.Turns.Mounts.{mounted-knows}
 use Rattle.ckr_desk.proofs.Units.Preparation.{err-is}

@@ -4,7 +4,7 @@ use Rattle.std.specs.Rc.{rc_value}
 use Rattle.std.proofs.lemmas.Bool.{and_from}
 use Rattle.ckr_book.specs.Book.{IsBeforeOrAfter, room_of}
 use Rattle.ckr_events.specs.Event.{spelling}
-use Rattle.ckr_desk_memory.proofs.Invariant.{numbered-behind}
+use Rattle.ckr_desk_memory.proofs.RunNumbers.{numbered-behind}
 use Rattle.ckr_desk_memory.proofs.RewriteCounts.{counted-may}
 use Rattle.ckr_desk_memory.specs.Model.RewriteCounts.{may_count}
 use Rattle.ckr_desk_memory.specs.OwnSets.{CommitsItsOwn}

@@ -6,7 +6,8 @@ use Rattle.ckr_points.specs.Rows.{TablesModel}
 use Rattle.ckr_queue.specs.Mounts.{MountTable, held_at, units_with, with_held}
 use Rattle.ckr_queue.specs.Units.{are_mounted}
 use Rattle.ckr_volumes.specs.declared.layout.Layout.{Layout}
-use Rattle.ckr_desk.proofs.Attendances.{asked-alike, asked-at, asked-may, asked-none, asked-planned, attended-unprepared, mount-done, mount-failed, mount-refused, run-wanted, unprepared, wants-so}
+use Rattle.ckr_desk.proofs.Attendances.{asked-at, asked-planned, attended-unprepared, unprepared, wants-so}
+use Rattle.ckr_desk.proofs.AskedVolumes.{asked-alike, asked-may, asked-none, mount-done, mount-failed, mount-refused, run-wanted}
 use Rattle.ckr_desk.proofs.Calls.Stops.{now-left, same-left}
 use Rattle.ckr_desk.proofs.MachineRooms.{MayCome, there-wanted}
 use Rattle.ckr_desk.proofs.Turns.Mounts.{ends-unmounted}

@@ -7,7 +7,8 @@ use Rattle.ckr_points.specs.Rows.{TablesModel}
 use Rattle.ckr_queue.specs.Mounts.{MountTable, held_at, units_with, with_held}
 use Rattle.ckr_queue.specs.Units.{are_mounted}
 use Rattle.ckr_volumes.specs.declared.layout.Layout.{Layout}
-use Rattle.ckr_desk.proofs.Attendances.{asked-alike, asked-may, asked-none, asked-planned, attended-not, attended-unprepared, later-before, later-since, later-sized, mount-done, mount-failed, mount-refused, run-wanted, unprepared, unworked-lacks, unworked-room, wants-so}
+use Rattle.ckr_desk.proofs.Attendances.{asked-planned, attended-not, attended-unprepared, later-before, later-since, later-sized, unprepared, unworked-lacks, unworked-room, wants-so}
+use Rattle.ckr_desk.proofs.AskedVolumes.{asked-alike, asked-may, asked-none, mount-done, mount-failed, mount-refused, run-wanted}
 use Rattle.ckr_desk.proofs.Calls.Stops.{reads-left}
 use Rattle.ckr_desk.proofs.MachineRooms.{MayCome, there-wanted}
 use Rattle.ckr_desk.proofs.Trust.Sameness.{IsAsBefore}

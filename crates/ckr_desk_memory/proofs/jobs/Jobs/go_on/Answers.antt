@@ -4,7 +4,7 @@ use Rattle.std.specs.Rc.{rc_value}
 use Rattle.ckr_points_tables.specs.Invariant.{MayContinue}
 use Rattle.ckr_desk_turn.specs.Queue.{AreNumbered}
 use Rattle.ckr_desk_memory.specs.View.{JobsView}
-use Rattle.ckr_desk_memory.proofs.Invariant.{follow-inside, may-go, queued-behind}
+use Rattle.ckr_desk_memory.proofs.RunNumbers.{follow-inside, may-go, queued-behind}
 use Rattle.ckr_desk_memory.proofs.jobs.Jobs.go_on.Goals as goal
 
 pub apply-requires-clause-continues : goal.apply-requires-clause-continues
