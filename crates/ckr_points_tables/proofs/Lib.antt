@@ -1,6 +1,6 @@
 pub mod Runs
 pub mod RunRows
-pub mod EndedRuns
+pub mod BegunRuns
 pub mod MarkOrder
 pub mod OwnNames
 pub mod RunChanges

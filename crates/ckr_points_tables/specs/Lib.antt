@@ -1,6 +1,6 @@
 pub mod Allocation
 pub mod Checkpoint
-pub mod EndedRuns
+pub mod BegunRuns
 pub mod Entries
 pub mod RunChange
 pub mod RunJobs

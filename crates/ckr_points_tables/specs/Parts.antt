@@ -4,7 +4,7 @@ use Rattle.std.specs.Option.{option_map}
 use Rattle.ckr_base.specs.RoomyLists.{Roomy}
 use Rattle.ckr_points_tables.specs.declared.run_table.WrittenEntry.{WrittenEntry}
 use Rattle.ckr_points_tables.specs.declared.tables.Tables.TheInside.{Inside}
-use Rattle.ckr_points_tables.specs.EndedRuns.{AreEnded, AreWaiting}
+use Rattle.ckr_points_tables.specs.BegunRuns.{AreEnded, AreWaiting}
 use Rattle.ckr_points_tables.specs.Invariant.{AreKept}
 use Rattle.ckr_points_tables.specs.View.{RoomyTables, next_of, room_of, rows_of, seen_under, table_in, written_of}
 

@@ -9,7 +9,7 @@ ghost use Rattle.ckr_points_tables.specs.Invariant.{is_run_change, is_submittabl
 ghost use Rattle.ckr_points.specs.Restart.{after_event};
 ghost use Rattle.ckr_points_tables.specs.View.{facts_of, fresh_facts};
 
-use crate::ended_runs::count_ended;
+use crate::begun_runs::count_ended;
 use crate::made_names::earlier_for;
 use crate::run_change::change_run;
 use crate::{EffectiveJob, RunTable, StepPoints, Tables};

@@ -2,10 +2,10 @@
 #![tactic(auto)]
 
 mod allocation;
+mod begun_runs;
 mod checkpoint;
 mod continuation;
 mod effective_job;
-mod ended_runs;
 mod entry_now;
 mod event;
 mod hold;

@@ -1,16 +1,16 @@
 //! The tables of the desk.
-ghost use Rattle.std.specs.Prelude.{◌≡◌, ℕ, ◌≤◌, ◌<◌, [], Bool, Some, IsTrue, OnOk, IsOk, length, map, replicate, slice_get, true};
+ghost use Rattle.std.specs.Prelude.{◌≡◌, ℕ, ◌≤◌, ◌<◌, [], Bool, Some, IsTrue, OnOk, IsOk, ◌-◌, drop, length, map, replicate, slice_get, take, true};
 ghost use Rattle.std.specs.List.{list_all};
 ghost use Rattle.std.specs.Option.{option_copied, option_map};
 ghost use Rattle.ckr_library.specs.NameMaps.{EachEntry};
 ghost use Rattle.ckr_points.specs.Rows.{no_tables, run_of, holding_of, RunRow, TableSet};
 ghost use Rattle.ckr_points.specs.declared.run.Run.{Run as LineOfRun};
 ghost use Rattle.ckr_points.specs.declared.run.RunState.TheVariants.{Queued as QueuedRun};
-ghost use Rattle.ckr_points_tables.specs.EndedRuns.{has_ended};
+ghost use Rattle.ckr_points_tables.specs.BegunRuns.{has_ended, AreEnded, AreWaiting};
 ghost use Rattle.ckr_points_tables.specs.RunRows.{IsRunRow};
 ghost use Rattle.ckr_points_tables.specs.View.{facts_in, facts_of, line_of, place_of, run_on, seen_by};
 
-use crate::ended_runs::lines_between;
+use crate::begun_runs::lines_between;
 use crate::marks_in_order::MarksInOrder;
 use crate::{RunTable, WrittenEntries};
 use ckr_base::NoMemory;
@@ -107,6 +107,8 @@ impl Tables {
     pub fn begun(&self) -> &[Run]
         ensures tests { (test : LineOfRun → Bool) → ((line : LineOfRun) → has_ended line.state ≡ true → test line ≡ true) → ((line : LineOfRun) → line.state ≡ QueuedRun → test line ≡ true)
             → list_all test result.now ≡ list_all test (map line_of self.now.desk.runs) }
+        ensures between { (ended : ℕ) × (changed : ℕ) × AreEnded ended (map line_of self.now.desk.runs) × AreWaiting changed (map line_of self.now.desk.runs)
+            × (result.now ≡ take (changed - ended) (drop ended (map line_of self.now.desk.runs))) }
         ensures rows { (job : ℕ) (row : RunRow) → run_of self.now.desk job ≡ Some row → IsRunRow job row }
     {
         lines_between(self.lines.as_slice(), self.ended, self.changed)

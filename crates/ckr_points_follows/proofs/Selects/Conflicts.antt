@@ -14,7 +14,7 @@ use Rattle.ckr_points.specs.Rows.{RunRow, TablesModel, run_of}
 use Rattle.ckr_points.specs.declared.run.Run.{Run}
 use Rattle.ckr_points.specs.declared.run.RunState.{RunState}
 use Rattle.ckr_points.specs.declared.run.RunState.TheVariants.{Queued, On, Held as HeldRun, Released as ReleasedRun, Ended, Denied, Purged}
-use Rattle.ckr_points_tables.specs.EndedRuns.{has_ended}
+use Rattle.ckr_points_tables.specs.BegunRuns.{has_ended}
 use Rattle.ckr_points_tables.specs.RunRows.{IsRunRow}
 use Rattle.ckr_points_tables.specs.View.{line_of}
 use Rattle.ckr_points_follows.specs.DeckConflicts.{holds_beside, may_be_beside}

@@ -4,8 +4,8 @@ use Rattle.ckr_points_tables.specs.MadeNames.{points_in}
 use Rattle.ckr_points_tables.specs.RunChange.{changed, earlier_for, going, holding_kit}
 use Rattle.ckr_points_tables.specs.View.{facts_of}
 use Rattle.ckr_points.specs.declared.run.Run.{Run}
-use Rattle.ckr_points_tables.specs.EndedRuns.{AreEnded}
-use Rattle.ckr_points_tables.proofs.EndedRuns.{ended-set, waiting-set}
+use Rattle.ckr_points_tables.specs.BegunRuns.{AreEnded}
+use Rattle.ckr_points_tables.proofs.BegunRuns.{ended-set, waiting-set}
 use Rattle.ckr_points_tables.proofs.Events.{placed_at}
 use Rattle.ckr_points_tables.proofs.Calls.{flags_ok, flags_told, job_ok, read-back, read-twice, inside_lines, inside_tables, inside_writings, fits_ok, may_ok, desk_ok, kept_ok}
 use Rattle.ckr_points_tables.proofs.tables.Tables.change.Goals as goal

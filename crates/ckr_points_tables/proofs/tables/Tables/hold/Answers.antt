@@ -10,7 +10,7 @@ use Rattle.ckr_points_tables.specs.RunChange.{by_step_of, going, holding_kit, pl
 use Rattle.ckr_points_tables.specs.StepEnd.{AreLengthsOf}
 use Rattle.ckr_points_tables.specs.RunJobs.{effective}
 use Rattle.ckr_points_tables.specs.View.{facts_of}
-use Rattle.ckr_points_tables.proofs.EndedRuns.{ended-set, waiting-set}
+use Rattle.ckr_points_tables.proofs.BegunRuns.{ended-set, waiting-set}
 use Rattle.ckr_points_tables.proofs.Calls.{read-back, read-twice}
 use Rattle.ckr_points_tables.proofs.Holds.{placed, fits_ok, lengths_ok, kept_held, desk_held}
 use Rattle.ckr_points_tables.proofs.RunMoves.{of_run-placed}

@@ -4,7 +4,7 @@ use Rattle.ckr_points_tables.specs.View.{rows_of, seen_under, table_in, written_
 use Rattle.ckr_points.specs.declared.run.RunState.TheVariants.{Held as HeldRun}
 use Rattle.ckr_points.specs.Follows.{is_in_state}
 use Rattle.ckr_points.specs.Rows.{TablesModel}
-use Rattle.ckr_points_tables.proofs.EndedRuns.{ended-set, waiting-set}
+use Rattle.ckr_points_tables.proofs.BegunRuns.{ended-set, waiting-set}
 use Rattle.ckr_points_tables.proofs.RunMoves.{of_run-placed}
 use Rattle.ckr_points_tables.proofs.Releases.{placed, kept_released, desk_released}
 use Rattle.ckr_points_tables.proofs.tables.Tables.release.Goals as goal

@@ -16,12 +16,12 @@ use Rattle.ckr_points.specs.declared.run.Run.{Run}
 use Rattle.ckr_points.specs.declared.run.RunState.TheVariants.{Queued}
 use Rattle.ckr_points_tables.specs.declared.run_table.RunTable.{RunTable}
 use Rattle.ckr_points.specs.Tables.{after_submitted}
-use Rattle.ckr_points_tables.specs.EndedRuns.{AreEnded, AreWaiting}
+use Rattle.ckr_points_tables.specs.BegunRuns.{AreEnded, AreWaiting}
 use Rattle.ckr_points_tables.specs.Invariant.{AreRuns, IsIndexOf, IsRun, is_submittable}
 use Rattle.ckr_points_tables.specs.Rewrite.{has_master}
 use Rattle.ckr_points.specs.Rows.{TablesModel}
 use Rattle.ckr_points_tables.specs.View.{RunTableView, is_within_limits, row_with, rows_of, seen_under, table_in, written_of}
-use Rattle.ckr_points_tables.proofs.EndedRuns.{ended-append, waiting-append}
+use Rattle.ckr_points_tables.proofs.BegunRuns.{ended-append, waiting-append}
 use Rattle.ckr_points_tables.proofs.Runs.{index-more, length-rows, rows-more, runs-more}
 use Rattle.ckr_points_tables.proofs.Checkpoints.{seen-begun}
 use Rattle.ckr_points_tables.proofs.tables.Tables.submit.Goals as goal

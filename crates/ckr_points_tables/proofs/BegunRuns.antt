@@ -3,7 +3,7 @@ use Rattle.std.proofs.Common.{◌≡◌, ℕ, zero, suc, ◌≤◌, ◌<◌, ◌
 use Rattle.std.specs.List.{list_all}
 use Rattle.ckr_points.specs.declared.run.Run.{Run}
 use Rattle.ckr_points.specs.declared.run.RunState.TheVariants.{Queued}
-use Rattle.ckr_points_tables.specs.EndedRuns.{AreEnded, AreWaiting, has_ended}
+use Rattle.ckr_points_tables.specs.BegunRuns.{AreEnded, AreWaiting, has_ended}
 
 pub ended-length : (count : ℕ) (lines : List Run) → AreEnded count lines → count ≤ length lines
 ended-length zero lines are = omega arith

@@ -1,7 +1,7 @@
 use Rattle.std.proofs.Common.{◌≡◌, length, suc, ◌+◌, arith, subst, sym, ◌∙◌}
-use Rattle.ckr_points_tables.specs.EndedRuns.{AreEnded}
-use Rattle.ckr_points_tables.proofs.EndedRuns.{ended-length, ended-next}
-use Rattle.ckr_points_tables.proofs.ended_runs.count_ended.Goals as goal
+use Rattle.ckr_points_tables.specs.BegunRuns.{AreEnded}
+use Rattle.ckr_points_tables.proofs.BegunRuns.{ended-length, ended-next}
+use Rattle.ckr_points_tables.proofs.begun_runs.count_ended.Goals as goal
 
 pub loop-place-preserved : goal.loop-place-preserved
 loop-place-preserved c =

@@ -1,6 +1,6 @@
-//! The runs from the first one on that have ended, and those behind them.
+//! The runs that have begun: those behind the first ones, which have all ended, and before the last ones, which wait.
 ghost use Rattle.std.specs.Prelude.{◌≡◌, ◌≤◌, ◌-◌, drop, length, take};
-ghost use Rattle.ckr_points_tables.specs.EndedRuns.{has_ended, AreEnded};
+ghost use Rattle.ckr_points_tables.specs.BegunRuns.{has_ended, AreEnded};
 
 use ckr_points::{Run, RunState};
 

@@ -1,4 +1,4 @@
--- Runs that have ended, and those that wait as they were submitted.
+-- Runs that have begun: the first ones have ended, and the last ones wait as they were submitted.
 use Rattle.std.specs.Prelude.{◌≡◌, ℕ, zero, suc, Bool, true, false, List, [], ◌∷◌}
 use Rattle.ckr_points.specs.declared.run.Run.{Run}
 use Rattle.ckr_points.specs.declared.run.RunState.{RunState}

@@ -1,5 +1,0 @@
-use Rattle.ckr_points_tables.specs.EndedRuns.{AreEnded}
-use Rattle.ckr_points_tables.proofs.ended_runs.count_ended.Given as goal
-
-abbrev pub invariant-loop-place : goal.invariant-loop-place
-invariant-loop-place l = AreEnded l.place l.lines
