@@ -16,15 +16,14 @@ pub(crate) fn leading_blanks(text: &[u8]) -> usize
     ensures rest { drop result text.now ≡ behind_blanks text.now }
     ensures bound { result ≤ length text.now }
 {
-    match text {
-        [] => 0,
-        [first, rest @ ..] => {
-            if !is_blank(*first) {
-                return 0;
-            }
-            leading_blanks(rest) + 1
+    let mut count: usize = 0;
+    for byte in text {
+        if !is_blank(*byte) {
+            return count;
         }
+        count += 1;
     }
+    count
 }
 
 /// How many bytes the operand field at the head of a text has.

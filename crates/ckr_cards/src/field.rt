@@ -6,7 +6,7 @@ ghost use Rattle.ckr_cards.specs.Statement.{whole_field, text_of, continued_spot
 use crate::Card;
 use crate::kind::is_well_placed;
 use crate::lines::{continued_field, first_field};
-use ckr_base::{ByteList, ItemList, NoMemory};
+use ckr_base::NoMemory;
 use std::alloc::Global;
 
 /// A byte of an operand field, and the card that it stands on.
@@ -18,12 +18,13 @@ pub struct FieldSpot {
 }
 
 /// An operand field, byte by byte.
-pub(crate) type Spots = ItemList<FieldSpot>;
+pub(crate) type Spots = Vec<FieldSpot>;
 
 /// Puts what stands on a card behind a field.
 fn push_spots(field: &mut Spots, card: u32, text: &[u8]) -> Result<(), NoMemory>
-    ensures { IfOk result (λ _. field.new ≡ field.old ++ spots card text.now) }
+    ensures { IfOk result (λ _. field.new.items ≡ field.old.items ++ spots card text.now) }
 {
+    field.reserve(text.len())?;
     for byte in text {
         field.push(FieldSpot { byte: *byte, card })?;
     }
@@ -33,7 +34,7 @@ fn push_spots(field: &mut Spots, card: u32, text: &[u8]) -> Result<(), NoMemory>
 /// The operand field over all cards of a statement, up to a continuation card that is wrong.
 #[tactic(auto, unfolding(crate::specs::Statement::whole_field))]
 pub(crate) fn whole_field(alloc: Global, first: &Card, more: &[Card]) -> Result<Spots, NoMemory>
-    ensures { IfOk result (λ field. field ≡ whole_field first.now more.now) }
+    ensures { IfOk result (λ field. field.items ≡ whole_field first.now more.now) }
 {
     let mut field = Spots::new(alloc);
     push_spots(&mut field, first.number, first_field(first.columns()))?;
@@ -43,7 +44,7 @@ pub(crate) fn whole_field(alloc: Global, first: &Card, more: &[Card]) -> Result<
 
 /// Puts the fields of continuation cards behind a field.
 fn push_continued(field: &mut Spots, more: &[Card]) -> Result<(), NoMemory>
-    ensures { IfOk result (λ _. field.new ≡ field.old ++ continued_spots (well_placed more.now)) }
+    ensures { IfOk result (λ _. field.new.items ≡ field.old.items ++ continued_spots (well_placed more.now)) }
 {
     for card in more {
         if !is_well_placed(card.columns()) {
@@ -55,10 +56,10 @@ fn push_continued(field: &mut Spots, more: &[Card]) -> Result<(), NoMemory>
 }
 
 /// The bytes of a part of a field.
-pub(crate) fn text_of(alloc: Global, part: &[FieldSpot]) -> Result<ByteList, NoMemory>
-    ensures { IfOk result (λ text. text ≡ text_of part.now) }
+pub(crate) fn text_of(alloc: Global, part: &[FieldSpot]) -> Result<Vec<u8>, NoMemory>
+    ensures { IfOk result (λ text. text.items ≡ text_of part.now) }
 {
-    let mut text = ByteList::new(alloc);
+    let mut text = Vec::with_capacity(alloc, part.len())?;
     for spot in part {
         text.push(spot.byte)?;
     }

@@ -25,15 +25,14 @@ fn word_length(text: &[u8]) -> usize
     ensures rest { drop result text.now ≡ behind_word text.now }
     ensures bound { result ≤ length text.now }
 {
-    match text {
-        [] => 0,
-        [first, rest @ ..] => {
-            if is_blank(*first) {
-                return 0;
-            }
-            word_length(rest) + 1
+    let mut count: usize = 0;
+    for byte in text {
+        if is_blank(*byte) {
+            return count;
         }
+        count += 1;
     }
+    count
 }
 
 /// Columns 3 to 71.
@@ -182,9 +181,9 @@ fn is_blank_first(text: &[u8]) -> bool
     }
 }
 
-/// Whether a card is a continuation card.
+/// Whether a card, from its columns, is a continuation card.
 #[tactic(auto, unfolding(crate::specs::Statement::is_continuation))]
-pub(crate) fn is_continuation(text: &[u8]) -> bool
+pub fn is_continuation(text: &[u8]) -> bool
     ensures { result ≡ is_continuation text.now }
 {
     has_slashes(text) && is_blank_first(behind_slashes(text)) && !is_null(text)

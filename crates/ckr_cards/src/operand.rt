@@ -37,9 +37,7 @@ fn copy_of(alloc: Global, text: &[u8]) -> Result<ByteList, NoMemory>
     ensures { IfOk result (λ copy. copy ≡ text.now) }
 {
     let mut copy = ByteList::new(alloc);
-    for byte in text {
-        copy.push(*byte)?;
-    }
+    copy.extend(text)?;
     Ok(copy)
 }
 

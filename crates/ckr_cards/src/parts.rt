@@ -1,6 +1,6 @@
 //! The parts of an operand field.
 ghost use Rattle.std.specs.Prelude.{◌≡◌, ◌+◌, ◌-◌, ◌^◌, ◌≤◌, length};
-ghost use Rattle.ckr_cards.specs.Field.{outside_after, reading_after, is_outside, depth_after, is_parting, is_end_of_part, may_follow, closes, is_orderly};
+ghost use Rattle.ckr_cards.specs.Field.{outside_after, reading_after, is_outside, depth_after, is_parting, is_end_of_part, may_follow};
 ghost use Rattle.ckr_cards.specs.Statement.{is_whole};
 ghost use Rattle.ckr_cards.specs.declared.field.FieldSpot.{FieldSpot};
 ghost use Rattle.ckr_cards.specs.Parts.{part_length};
@@ -125,22 +125,11 @@ fn may_follow(reading: Reading, depth: usize, byte: u8) -> bool
     }
 }
 
-/// Whether no parenthesis and no apostrophe is open at the end of a text.
-fn closes(text: &[u8]) -> bool
-    ensures { result ≡ closes text.now }
-{
-    let mut reading = Reading::Free;
-    let mut depth: usize = 0;
-    for byte in text {
-        depth = depth_behind(reading, depth, *byte);
-        reading = reading.after(*byte);
-    }
-    reading.is_outside() && depth == 0
-}
-
-/// Whether each parenthesis that closes was open, and no text stands behind a closing one.
-fn is_orderly(text: &[u8]) -> bool
-    ensures { result ≡ is_orderly text.now }
+/// Whether a part of a field is an operand: it isn't empty, it closes, and behind a closing
+/// parenthesis or apostrophe no text stands.
+#[tactic(auto, unfolding(crate::specs::Statement::is_whole))]
+pub(crate) fn is_whole(text: &[u8]) -> bool
+    ensures { result ≡ is_whole text.now }
 {
     let mut reading = Reading::Free;
     let mut depth: usize = 0;
@@ -151,14 +140,5 @@ fn is_orderly(text: &[u8]) -> bool
         depth = depth_behind(reading, depth, *byte);
         reading = reading.after(*byte);
     }
-    true
-}
-
-/// Whether a part of a field is an operand: it isn't empty, it closes, and behind a closing
-/// parenthesis or apostrophe no text stands.
-#[tactic(auto, unfolding(crate::specs::Statement::is_whole))]
-pub(crate) fn is_whole(text: &[u8]) -> bool
-    ensures { result ≡ is_whole text.now }
-{
-    !text.is_empty() && closes(text) && is_orderly(text)
+    !text.is_empty() && reading.is_outside() && depth == 0
 }

@@ -112,11 +112,15 @@ fn enclosed(left: u8, right: u8, text: &[u8]) -> Option<&[u8]>
     Some(&text[1..text.len() - 1])
 }
 
-/// Whether a text is a word.
+/// Whether a text is a word. They are compared byte by byte, since words are short and mostly differ in the first byte.
 pub fn is_spelled(word: &[u8], text: &[u8]) -> bool
     ensures { result ≡ bytes_eq word.now text.now }
 {
-    word == text
+    match (word, text) {
+        ([], []) => true,
+        ([byte, rest @ ..], [other, others @ ..]) => byte == other && is_spelled(rest, others),
+        _ => false,
+    }
 }
 
 /// What stands in the parentheses around a text.
@@ -219,10 +223,10 @@ pub fn is_empty_or(most: &[u8], text: &[u8]) -> bool
 pub fn is_among(table: &[u8], key: &[u8]) -> bool
     ensures { result ≡ is_among (words table.now) key.now }
 {
-    if is_spelled(key, before(b' ', table)) {
+    let length = length_before(b' ', table);
+    if is_spelled(key, &table[..length]) {
         return true;
     }
-    let length = length_before(b' ', table);
     if length == table.len() {
         return false;
     }

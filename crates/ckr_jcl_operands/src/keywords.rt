@@ -12,7 +12,7 @@ use crate::job_values::{rd_value, restart_value};
 use crate::parm_values::parm_value;
 use ckr_base::Name8;
 use ckr_cards::{Operand, Statement, StatementKind};
-use ckr_jcl::{is_among, is_spelled};
+use ckr_jcl::is_spelled;
 
 /// Whether a keyword of a statement is read.
 #[tactic(auto, unfolding(crate::specs::Keywords::is_read))]
@@ -20,9 +20,18 @@ fn is_read(kind: StatementKind, key: &[u8]) -> bool
     ensures { result ≡ is_read kind key.now }
 {
     match kind {
-        StatementKind::Job => is_among(b"RD RESTART", key),
-        StatementKind::Exec => is_among(b"PGM PARM RD", key),
-        StatementKind::Dd => is_among(b"DSN DISP VOL SPACE DCB SYSOUT", key),
+        StatementKind::Job => is_spelled(key, b"RD") || is_spelled(key, b"RESTART"),
+        StatementKind::Exec => {
+            is_spelled(key, b"PGM") || is_spelled(key, b"PARM") || is_spelled(key, b"RD")
+        }
+        StatementKind::Dd => {
+            is_spelled(key, b"DSN")
+                || is_spelled(key, b"DISP")
+                || is_spelled(key, b"VOL")
+                || is_spelled(key, b"SPACE")
+                || is_spelled(key, b"DCB")
+                || is_spelled(key, b"SYSOUT")
+        }
         _ => false,
     }
 }
@@ -33,9 +42,18 @@ fn is_without_effect(kind: StatementKind, key: &[u8]) -> bool
     ensures { result ≡ is_without_effect kind key.now }
 {
     match kind {
-        StatementKind::Job => is_among(b"CLASS MSGCLASS MSGLEVEL PRTY REGION TIME", key),
-        StatementKind::Exec => is_among(b"REGION TIME ACCT", key),
-        StatementKind::Dd => is_among(b"UNIT LABEL", key),
+        StatementKind::Job => {
+            is_spelled(key, b"CLASS")
+                || is_spelled(key, b"MSGCLASS")
+                || is_spelled(key, b"MSGLEVEL")
+                || is_spelled(key, b"PRTY")
+                || is_spelled(key, b"REGION")
+                || is_spelled(key, b"TIME")
+        }
+        StatementKind::Exec => {
+            is_spelled(key, b"REGION") || is_spelled(key, b"TIME") || is_spelled(key, b"ACCT")
+        }
+        StatementKind::Dd => is_spelled(key, b"UNIT") || is_spelled(key, b"LABEL"),
         _ => false,
     }
 }
@@ -46,12 +64,31 @@ pub fn is_left_out(kind: StatementKind, key: &[u8]) -> bool
     ensures { result ≡ is_left_out kind key.now }
 {
     match kind {
-        StatementKind::Job => is_among(b"COND TYPRUN ADDRSPC ROLL NOTIFY", key),
-        StatementKind::Exec => is_among(b"COND ADDRSPC DPRTY ROLL", key),
-        StatementKind::Dd => is_among(
-            b"DDNAME AFF SEP SPLIT SUBALLOC UCS OUTLIM DLM QNAME DYNAM",
-            key,
-        ),
+        StatementKind::Job => {
+            is_spelled(key, b"COND")
+                || is_spelled(key, b"TYPRUN")
+                || is_spelled(key, b"ADDRSPC")
+                || is_spelled(key, b"ROLL")
+                || is_spelled(key, b"NOTIFY")
+        }
+        StatementKind::Exec => {
+            is_spelled(key, b"COND")
+                || is_spelled(key, b"ADDRSPC")
+                || is_spelled(key, b"DPRTY")
+                || is_spelled(key, b"ROLL")
+        }
+        StatementKind::Dd => {
+            is_spelled(key, b"DDNAME")
+                || is_spelled(key, b"AFF")
+                || is_spelled(key, b"SEP")
+                || is_spelled(key, b"SPLIT")
+                || is_spelled(key, b"SUBALLOC")
+                || is_spelled(key, b"UCS")
+                || is_spelled(key, b"OUTLIM")
+                || is_spelled(key, b"DLM")
+                || is_spelled(key, b"QNAME")
+                || is_spelled(key, b"DYNAM")
+        }
         _ => false,
     }
 }
@@ -82,7 +119,12 @@ pub fn is_positional(kind: StatementKind, text: &[u8]) -> bool
 {
     match kind {
         StatementKind::Job => true,
-        StatementKind::Dd => is_among(b"* DATA DUMMY DYNAM", text),
+        StatementKind::Dd => {
+            is_spelled(text, b"*")
+                || is_spelled(text, b"DATA")
+                || is_spelled(text, b"DUMMY")
+                || is_spelled(text, b"DYNAM")
+        }
         _ => false,
     }
 }

@@ -15,7 +15,7 @@ ghost use Rattle.ckr_points_follows.specs.declared.stretches.Stretch.{Stretch as
 use crate::items::parts_for;
 use crate::placements::{PlacedNow, is_made};
 use crate::stretches::{
-    Stretch, all_apart, are_inside, bytes_in, gathered, lists_apart, records_in,
+    Stretch, all_apart, are_inside, bytes_in, gathered, gathered_few, lists_apart, records_in,
 };
 use ckr_events::Made;
 use ckr_jcl::Dd;
@@ -107,6 +107,23 @@ fn lie_apart(
     requires are { stretches.now ≡ gathered one.now.number items.now }
     ensures { result ≡ lie_apart (set_made items.now (placed_now one.now)) (set_made items.now (placed_now other.now)) }
 {
+    match gathered_few(other.number, items) {
+        Some(others) => lists_apart(one.dd.lrecl, other.dd.lrecl, stretches, others.as_slice()),
+        None => lie_apart_of_many(one, stretches, other, items),
+    }
+}
+
+/// The same where the other one has many stretches.
+fn lie_apart_of_many(
+    one: &PlacedNow<'_>,
+    stretches: &[Stretch],
+    other: &PlacedNow<'_>,
+    items: &[Made],
+) -> bool
+    requires few { length items.now ≤ 80 }
+    requires are { stretches.now ≡ gathered one.now.number items.now }
+    ensures { result ≡ lie_apart (set_made items.now (placed_now one.now)) (set_made items.now (placed_now other.now)) }
+{
     let others = gathered(other.number, items);
     lists_apart(one.dd.lrecl, other.dd.lrecl, stretches, others.as_slice())
 }
@@ -165,6 +182,23 @@ fn lie_clear(
 
 /// Whether the data set that a DD makes stands in the layout, apart from those of the tables and from those of the DDs before it.
 fn makes_clear(
+    tables: &Tables,
+    layout: &Layout,
+    items: &[Made],
+    before: &[Option<PlacedNow<'_>>],
+    one: &PlacedNow<'_>,
+) -> bool
+    requires { length items.now ≤ 80 }
+    ensures { let set = set_made items.now (placed_now one.now) in result ≡ (stands_in layout.now set && lies_clear tables.now.desk.sets set && list_all (is_apart_from items.now (placed_now one.now)) (placed_list before.now)) }
+{
+    match gathered_few(one.number, items) {
+        Some(stretches) => lie_clear(tables, layout, items, before, one, stretches.as_slice()),
+        None => makes_clear_of_many(tables, layout, items, before, one),
+    }
+}
+
+/// The same where the data set has many stretches.
+fn makes_clear_of_many(
     tables: &Tables,
     layout: &Layout,
     items: &[Made],

@@ -1,5 +1,5 @@
 //! Where the data sets that a step makes lie.
-ghost use Rattle.std.specs.Prelude.{◌≡◌, ◌+◌, ◌*◌, ◌^◌, ◌<◌, ◌≤◌, ◌++◌, length, map};
+ghost use Rattle.std.specs.Prelude.{◌≡◌, ◌+◌, ◌*◌, ◌^◌, ◌<◌, ◌≤◌, ◌++◌, IfSome, length, map};
 ghost use Rattle.std.specs.List.{list_all};
 ghost use Rattle.ckr_volumes.specs.Places.{end_of};
 ghost use Rattle.ckr_volumes.specs.Layouts.{are_apart, is_inside};
@@ -21,8 +21,8 @@ pub(crate) struct Stretch {
 }
 
 /// Puts the stretches of an item behind others.
-fn put_stretches(volume: u8, pieces: &[Piece], stretches: &mut ArrayVec<Stretch, 400>)
-    requires { length stretches.old.items + length pieces.now ≤ 400 }
+fn put_stretches<const N: usize>(volume: u8, pieces: &[Piece], stretches: &mut ArrayVec<Stretch, N>)
+    requires { length stretches.old.items + length pieces.now ≤ N }
     ensures items { stretches.new.items ≡ stretches.old.items ++ map (stretch_in volume) pieces.now }
     ensures len { length stretches.new.items ≡ length stretches.old.items + length pieces.now }
 {
@@ -47,6 +47,23 @@ pub(crate) fn gathered(number: u8, items: &[Made]) -> ArrayVec<Stretch, 400>
         }
     }
     stretches
+}
+
+/// The stretches of the items of a DD where they are at most 5, as they mostly are. Room for more is cleared each time that it is made.
+pub(crate) fn gathered_few(number: u8, items: &[Made]) -> Option<ArrayVec<Stretch, 5>>
+    ensures { IfSome result (λ few. few.items ≡ gathered number items.now) }
+{
+    let mut stretches = ArrayVec::new();
+    for item in items {
+        if item.dd == number {
+            let pieces = item.pieces.as_slice();
+            if stretches.len() + pieces.len() > 5 {
+                return None;
+            }
+            put_stretches(item.volume, pieces, &mut stretches);
+        }
+    }
+    Some(stretches)
 }
 
 /// How many records the stretches have.

@@ -3,4 +3,4 @@ use Rattle.ckr_cards.specs.Statement.{continued_spots, well_placed}
 use Rattle.ckr_cards.proofs.field.push_continued.Given as goal
 
 abbrev pub invariant-loop-card : goal.invariant-loop-card
-invariant-loop-card l = l.fn.field ++ continued_spots (well_placed l.more) ≡ l.field ++ continued_spots (well_placed (drop l.card-index l.more))
+invariant-loop-card l = l.fn.field.items ++ continued_spots (well_placed l.more) ≡ l.field.items ++ continued_spots (well_placed (drop l.card-index l.more))

@@ -3,4 +3,4 @@ use Rattle.ckr_cards.specs.Field.{spots}
 use Rattle.ckr_cards.proofs.field.push_spots.Given as goal
 
 abbrev pub invariant-loop-byte : goal.invariant-loop-byte
-invariant-loop-byte l = l.field ≡ l.fn.field ++ spots l.card (take l.byte-index l.text)
+invariant-loop-byte l = l.field.items ≡ l.fn.field.items ++ spots l.card (take l.byte-index l.text)

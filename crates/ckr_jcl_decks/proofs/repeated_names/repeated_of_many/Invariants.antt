@@ -3,7 +3,7 @@ use Rattle.std.specs.List.{list_any}
 use Rattle.ckr_jcl_operands.specs.declared.dd_values.DsnText.{DsnText}
 use Rattle.ckr_jcl_decks.specs.DeckFaults.{has_dd_name, has_dsn, repeated_dd}
 use Rattle.ckr_jcl_decks.specs.MetNames.{was_met, dsn_met}
-use Rattle.ckr_jcl_decks.proofs.repeated_names.repeated_dd.Given as goal
+use Rattle.ckr_jcl_decks.proofs.repeated_names.repeated_of_many.Given as goal
 
 abbrev pub invariant-loop-dd : goal.invariant-loop-dd
 invariant-loop-dd l = record {

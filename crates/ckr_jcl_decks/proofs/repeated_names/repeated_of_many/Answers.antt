@@ -1,6 +1,6 @@
 use Rattle.std.proofs.Common.{refl}
 use Rattle.ckr_jcl_decks.proofs.MetNames.{none_met, no_dsn_met}
-use Rattle.ckr_jcl_decks.proofs.repeated_names.repeated_dd.Goals as goal
+use Rattle.ckr_jcl_decks.proofs.repeated_names.repeated_of_many.Goals as goal
 
 pub loop-dd-init : goal.loop-dd-init
 loop-dd-init c = record {

@@ -2,7 +2,7 @@ use Rattle.std.proofs.Common.{◌≡◌, ℕ, List, [], take, drop}
 use Rattle.std.specs.List.{list_any}
 use Rattle.ckr_jcl_decks.specs.DeckFaults.{has_step_name, repeated_in}
 use Rattle.ckr_jcl_decks.specs.MetNames.{was_met}
-use Rattle.ckr_jcl_decks.proofs.repeated_names.repeated_in.Given as goal
+use Rattle.ckr_jcl_decks.proofs.repeated_names.repeated_in_many.Given as goal
 
 abbrev pub invariant-loop-step : goal.invariant-loop-step
 invariant-loop-step l = record {

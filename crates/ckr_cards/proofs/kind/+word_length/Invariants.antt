@@ -1,5 +1,0 @@
-use Rattle.std.proofs.Common.{length}
-use Rattle.ckr_cards.proofs.kind.+word_length.Given as goal
-
-abbrev pub decreases-word_length : goal.decreases-word_length
-decreases-word_length l = length l.text.now

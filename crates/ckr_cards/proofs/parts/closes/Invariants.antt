@@ -1,6 +1,0 @@
-use Rattle.std.proofs.Common.{◌≡◌, ◌≤◌, drop}
-use Rattle.ckr_cards.specs.Field.{closes, closes_from}
-use Rattle.ckr_cards.proofs.parts.closes.Given as goal
-
-abbrev pub invariant-loop-byte : goal.invariant-loop-byte
-invariant-loop-byte l = (l.depth ≤ l.byte-index) × (closes l.text ≡ closes_from l.reading l.depth (drop l.byte-index l.text))
