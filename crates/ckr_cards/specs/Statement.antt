@@ -206,6 +206,21 @@ with_more kind first more rest =
 unfoldable pub bare : StatementKind → Card → Statement
 bare kind first = record { kind = kind; first = first; more = []; ended = true; tidy = true; operands = []; records = [] }
 
+-- the statement of a first card and of the cards with which its field goes on, without records
+unfoldable pub statement_of_cards : Card → List Card → Statement
+statement_of_cards first more =
+    if is_named (kind_of (columns first))
+    then with_field (kind_of (columns first)) first more (comes_to_end (goes_on (first_field (columns first))) more) (whole_field first more) []
+    else bare (kind_of (columns first)) first
+
+-- by what the records behind a statement end
+abbrev pub in_stream : Statement → InStream
+in_stream s = records_if s.ended (records_after (columns s.first))
+
+-- whether the field of a first card calls for a continuation card
+abbrev pub calls_first : List ℕ → Bool
+calls_first text = is_named (kind_of text) && goes_on (first_field text)
+
 -- the statement that begins with a card, before the rest of the cards
 unfoldable pub statement_at : Card → List Card → Statement
 statement_at first rest =

@@ -4,12 +4,12 @@ ghost use Rattle.std.specs.List.{list_all};
 ghost use Rattle.ckr_cards.specs.Card.{is_blank};
 ghost use Rattle.ckr_cards.specs.Cut.{columns_of, starts_deck, is_command, is_ignored};
 ghost use Rattle.ckr_cards.specs.Field.{goes_on, parts_of};
-ghost use Rattle.ckr_cards.specs.Statement.{first_field, continued_field, calls_again, records_if, first_part, is_record, records_after, records_behind, kind_of};
+ghost use Rattle.ckr_cards.specs.Statement.{first_field, continued_field, calls_first, calls_again, records_if, first_part, is_record, records_after, records_behind, kind_of};
 
 use crate::columns::{field_length, goes_on, leading_blanks};
 use crate::kind::{
     StatementKind, are_blanks, behind_operation, behind_slashes, has_slashes, is_comment,
-    is_delimiter, is_null, is_well_placed, kind_of, name_of,
+    is_delimiter, is_named, is_null, is_well_placed, kind_of, name_of,
 };
 use crate::parts::part_length;
 use ckr_base::Name8;
@@ -22,9 +22,9 @@ pub enum InStream {
     UpToDelimiter,
 }
 
-/// Whether a card is a record.
+/// Whether a card, from its columns, is one of these records.
 #[tactic(auto, unfolding(crate::specs::Statement::is_record))]
-pub(crate) fn is_record(records: InStream, columns: &[u8]) -> bool
+pub fn is_record(records: InStream, columns: &[u8]) -> bool
     ensures { result ≡ is_record records columns.now }
 {
     match records {
@@ -75,31 +75,29 @@ fn first_part(field: &[u8]) -> &[u8]
     &field[..part_length(field)]
 }
 
-/// The records behind a statement of a kind with a first operand.
+/// The records behind a DD with a first operand.
 #[tactic(auto, unfolding(crate::specs::Statement::records_behind))]
-fn records_behind(kind: StatementKind, operand: &[u8]) -> InStream
-    ensures { result ≡ records_behind kind operand.now }
+fn records_behind(operand: &[u8]) -> InStream
+    ensures { result ≡ records_behind StatementKind.Dd operand.now }
 {
-    match kind {
-        StatementKind::Dd => {
-            if operand == b"*".as_slice() {
-                return InStream::UpToSlashes;
-            }
-            if operand == b"DATA".as_slice() {
-                return InStream::UpToDelimiter;
-            }
-            InStream::NoRecords
-        }
-        _ => InStream::NoRecords,
+    if operand == b"*".as_slice() {
+        return InStream::UpToSlashes;
     }
+    if operand == b"DATA".as_slice() {
+        return InStream::UpToDelimiter;
+    }
+    InStream::NoRecords
 }
 
 /// The records behind the statement that a card begins.
-#[tactic(auto, unfolding(crate::specs::Statement::records_after))]
+#[tactic(auto, unfolding(crate::specs::Statement::records_after, crate::specs::Statement::records_behind))]
 pub(crate) fn records_after(columns: &[u8]) -> InStream
     ensures { result ≡ records_after columns.now }
 {
-    records_behind(kind_of(columns), first_part(first_field(columns)))
+    match kind_of(columns) {
+        StatementKind::Dd => records_behind(first_part(first_field(columns))),
+        _ => InStream::NoRecords,
+    }
 }
 
 /// Whether a card starts a deck.
@@ -130,9 +128,16 @@ pub(crate) fn is_ignored(line: &[u8], columns: &[u8]) -> bool
     are_blanks(line) || is_comment(columns) || is_null(columns) || is_delimiter(columns)
 }
 
-/// Whether a continuation card calls for another one.
+/// Whether the field of a first card, from its columns, calls for a continuation card.
+pub fn calls_first(text: &[u8]) -> bool
+    ensures { result ≡ calls_first text.now }
+{
+    is_named(kind_of(text)) && first_goes_on(text)
+}
+
+/// Whether a continuation card, from its columns, calls for another one.
 #[tactic(auto, unfolding(crate::specs::Statement::calls_again))]
-pub(crate) fn calls_again(text: &[u8]) -> bool
+pub fn calls_again(text: &[u8]) -> bool
     ensures { result ≡ calls_again text.now }
 {
     is_well_placed(text) && continued_goes_on(text)

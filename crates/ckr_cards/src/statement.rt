@@ -1,8 +1,8 @@
 //! A statement of a deck.
-ghost use Rattle.std.specs.Prelude.{◌≡◌, ◌+◌, ◌^◌, ◌<◌, ◌≤◌, ◌++◌, IfOk, length, drop};
+ghost use Rattle.std.specs.Prelude.{◌≡◌, ◌+◌, ◌^◌, ◌<◌, ◌≤◌, ◌++◌, [], IfOk, length, drop};
 ghost use Rattle.ckr_cards.specs.Card.{columns, stored_card, stored_cards};
 ghost use Rattle.ckr_cards.specs.Field.{goes_on};
-ghost use Rattle.ckr_cards.specs.Statement.{continuation, comes_to_end, records_in, first_field, with_more, statement_at, name_in, cards_behind};
+ghost use Rattle.ckr_cards.specs.Statement.{continuation, comes_to_end, records_in, first_field, whole_field, with_field, with_more, bare, statement_at, statement_of_cards, in_stream, name_in, cards_behind};
 
 use crate::field::whole_field;
 use crate::kind::{is_continuation, is_named, is_well_placed, kind_of, name_of};
@@ -96,6 +96,32 @@ fn read_records(
     Ok(records)
 }
 
+/// A JOB, EXEC or DD statement of these cards, without records.
+#[tactic(auto, unfolding(crate::specs::Statement::with_field))]
+fn with_field(
+    alloc: Global,
+    kind: StatementKind,
+    first: Card,
+    calls: bool,
+    more: CardList,
+) -> Result<Statement, NoMemory>
+    requires { calls ≡ goes_on (first_field (columns first)) }
+    ensures { IfOk result (λ s. s ≡ with_field kind first more (comes_to_end calls more) (whole_field first more) []) }
+{
+    let ended = comes_to_end(calls, more.as_slice());
+    let field = whole_field(alloc, &first, more.as_slice())?;
+    let read = read_operands(alloc, field.as_slice())?;
+    Ok(Statement {
+        kind,
+        first,
+        more,
+        ended,
+        tidy: read.tidy,
+        operands: read.operands,
+        records: CardList::new(alloc),
+    })
+}
+
 /// A JOB, EXEC or DD statement.
 #[tactic(auto, using(crate::proofs::StoredCards::drop_stored), unfolding(crate::specs::Statement::with_more, crate::specs::Statement::with_field))]
 fn read_named(
@@ -109,26 +135,32 @@ fn read_named(
 {
     let calls = first_goes_on(first.columns());
     let more = read_continuation(alloc, first.number + 1, calls, rest)?;
-    let ended = comes_to_end(calls, more.as_slice());
-    let field = whole_field(alloc, &first, more.as_slice())?;
-    let read = read_operands(alloc, field.as_slice())?;
-    let count = more.as_slice().len();
+    let begun = with_field(alloc, kind, first, calls, more)?;
+    let count = begun.more.as_slice().len();
     let (_, behind) = rest.split_at(count);
-    let ends = records_if(ended, records_after(first.columns()));
+    let ends = begun.in_stream();
     let records = read_records(alloc, first.number + 1 + count as u32, ends, behind)?;
-    Ok(Statement {
+    Ok(Statement { records, ..begun })
+}
+
+/// A comment, a delimiter, a null card or no statement at all.
+#[tactic(auto, unfolding(crate::specs::Statement::bare))]
+fn bare(alloc: Global, kind: StatementKind, first: Card) -> Statement
+    ensures { result ≡ bare kind first }
+{
+    Statement {
         kind,
         first,
-        more,
-        ended,
-        tidy: read.tidy,
-        operands: read.operands,
-        records,
-    })
+        more: CardList::new(alloc),
+        ended: true,
+        tidy: true,
+        operands: Operands::new(alloc),
+        records: CardList::new(alloc),
+    }
 }
 
 /// The statement that begins with a card.
-#[tactic(auto, unfolding(crate::specs::Statement::statement_at, crate::specs::Statement::bare))]
+#[tactic(auto, unfolding(crate::specs::Statement::statement_at))]
 fn statement_at(
     alloc: Global,
     number: u32,
@@ -143,15 +175,21 @@ fn statement_at(
     if is_named(kind) {
         return read_named(alloc, kind, card, rest);
     }
-    Ok(Statement {
-        kind,
-        first: card,
-        more: CardList::new(alloc),
-        ended: true,
-        tidy: true,
-        operands: Operands::new(alloc),
-        records: CardList::new(alloc),
-    })
+    Ok(bare(alloc, kind, card))
+}
+
+/// The statement of a first card and of the cards with which its field goes on, without records
+/// (IBM GC28-6704).
+#[tactic(auto, unfolding(crate::specs::Statement::statement_of_cards))]
+pub fn statement_of_cards(alloc: Global, first: Card, more: CardList) -> Result<Statement, NoMemory>
+    ensures { IfOk result (λ s. s ≡ statement_of_cards first more) }
+{
+    let kind = kind_of(first.columns());
+    if is_named(kind) {
+        let calls = first_goes_on(first.columns());
+        return with_field(alloc, kind, first, calls, more);
+    }
+    Ok(bare(alloc, kind, first))
 }
 
 /// The statement that begins with the card of a number, before the rest of the cards (IBM
@@ -176,6 +214,13 @@ impl Statement {
         ensures { result.now ≡ name_in self.now }
     {
         name_of(self.first.columns())
+    }
+
+    /// By what the records behind its field end, which begin only where the field comes to its end.
+    pub fn in_stream(&self) -> InStream
+        ensures { result ≡ in_stream self.now }
+    {
+        records_if(self.ended, records_after(self.first.columns()))
     }
 
     /// How many cards it has behind its first one.

@@ -1,6 +1,6 @@
 //! Streams and statements as they are punched.
 
-use ckr_cards::{CutState, Cutter, Line, StatementKind, StoredDeck, read_statement, stored_line};
+use ckr_cards::{CutState, Cutter, Line, StatementKind, read_statement, stored_line};
 use std::test::Fail;
 
 /// A stream: each line, and what it is.
@@ -24,28 +24,6 @@ fn lines_of_a_stream(rt: HostRuntime) {
     for (text, kind) in lines {
         assert!(rt; cutter.line(text) == kind);
     }
-}
-
-/// A deck as it is stored: 81 bytes a card, of which the last tells that the line was longer.
-#[test]
-fn cards_as_they_are_stored(rt: HostRuntime) -> Result<(), Fail> {
-    let mut deck = StoredDeck::new(rt.alloc());
-    let mut cutter = Cutter::new();
-    assert!(rt; deck.is_empty());
-    for (text, kind) in [
-        (b"//COPY1 JOB".as_slice(), Line::Starts),
-        ([b'x'; 81].as_slice(), Line::Card),
-    ] {
-        let card = stored_line(text);
-        assert!(rt; cutter.card(text, &card) == kind);
-        deck.push(card)?;
-    }
-    assert!(rt; deck.bytes().len() == 162);
-    assert!(rt; deck.bytes().starts_with(b"//COPY1 JOB "));
-    assert!(rt; deck.bytes().ends_with(b"x\x01"));
-    deck.clear();
-    assert!(rt; deck.is_empty());
-    Ok(())
 }
 
 /// A DD with a continuation card and a record, and the delimiter behind it.

@@ -28,6 +28,8 @@ mod journal;
 #[cfg(test)]
 mod library;
 #[cfg(test)]
+mod open_deck;
+#[cfg(test)]
 mod outside;
 #[cfg(test)]
 mod parms;

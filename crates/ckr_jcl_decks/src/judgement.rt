@@ -41,9 +41,10 @@ fn least_of_names(alloc: Global, cards: u32, job: &JobText) -> Result<Option<Fau
     Ok(fault_at(17, dd_or_syschk(DdRule::LeftOut, job), later))
 }
 
-/// The fault of a deck of the least card, and of these the one of the least number.
+/// The fault, of J12 to J24, of the least card of a deck of so many cards whose statements have none, and of these the one of the least number
+/// (IBM GC28-6704 and this project's profile).
 #[tactic(auto, unfolding(crate::specs::DeckFaults::deck_faults))]
-fn least_fault(alloc: Global, cards: u32, job: &JobText) -> Result<Option<Fault>, NoMemory>
+pub fn least_of_deck(alloc: Global, cards: u32, job: &JobText) -> Result<Option<Fault>, NoMemory>
     ensures { IfOk result (λ fault. fault ≡ least_fault (deck_faults cards job.now)) }
 {
     let later = least_of_names(alloc, cards, job)?;
@@ -59,7 +60,7 @@ fn least_fault(alloc: Global, cards: u32, job: &JobText) -> Result<Option<Fault>
 pub(crate) fn judged(alloc: Global, cards: u32, job: &JobText) -> Result<Job, DeckError>
     ensures { Answers result (judged cards job.now) }
 {
-    match least_fault(alloc, cards, job)? {
+    match least_of_deck(alloc, cards, job)? {
         Some(fault) => Err(DeckError::At {
             number: fault.number,
             card: fault.card,

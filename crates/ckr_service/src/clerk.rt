@@ -30,6 +30,7 @@ use crate::turns::turned;
 use ckr_base::{DsName, Name8, NoMemory, Rec};
 use ckr_console::Operator;
 use ckr_desk::{Desk, DeskError, Run, Submitted};
+use ckr_open_deck::{OpenDeck, refusal_of};
 use ckr_outside::{Disk, Sink};
 use std::alloc::Global;
 
@@ -126,8 +127,47 @@ impl<D: Disk, O: Operator> Clerk<D, O> {
         }
     }
 
-    /// A deck ends.
-    pub fn submit(&mut self, cards: &[u8], out: &mut Text) -> Result<(), Halt>
+    /// A deck ends, which has a card. One with more cards than it may have is refused without the desk.
+    pub fn end_deck(&mut self, deck: &OpenDeck, out: &mut Text) -> Result<(), Halt>
+        requires some { 0 < length deck.now }
+        requires few { length deck.now < 81 * 4294967295 }
+        requires is_open { IsOpen self.old.desk }
+        ensures serves { IsTrusted D.told D.content D.may_leave self.old.desk → OnOk result (Serves (seen D.content self.old) (seen D.content self.new) (Deck deck.now ∷ []) out.old out.new) }
+        ensures trusted { OnOk result (IsTrusted D.told D.content D.may_leave self.old.desk → IsTrusted D.told D.content D.may_leave self.new.desk) }
+        ensures goes { IsTrusted D.told D.content D.may_leave self.old.desk → OnOk result (Goes D.content D.moment D.left_since D.size self.old.desk self.new.desk) }
+        ensures is_open { OnOk result (IsOpen self.new.desk) }
+        ensures later { D.faults (disk_of self.old.desk) ≤ D.faults (disk_of self.new.desk) }
+        ensures size { D.size (disk_of self.new.desk) ≡ D.size (disk_of self.old.desk) }
+        ensures halt { IsTrusted D.told D.content D.may_leave self.old.desk → IfErr result (λ halt. Stopped D.content D.moment D.left_since D.size self.old.desk (disk_of self.new.desk) (HaltsSo halt (staffed_of D.content self.old) (Deck deck.now ∷ []) out.old out.new)) }
+        ensures cause { IfErr result (λ halt. HaltCause (IsTrusted D.told D.content D.may_leave self.old.desk) halt (D.faults (disk_of self.old.desk)) (D.faults (disk_of self.new.desk))) }
+    {
+        let _layout = self.desk.layout();
+        match deck.bytes() {
+            Some(cards) => self.submit(cards, out),
+            None => self.refuse_long(deck, out),
+        }
+    }
+
+    /// A deck ends that has more cards than it may have.
+    fn refuse_long(&mut self, deck: &OpenDeck, out: &mut Text) -> Result<(), Halt>
+        requires many { 81 * 100000 < length deck.now }
+        requires few { length deck.now < 81 * 4294967295 }
+        requires is_open { IsOpen self.old.desk }
+        ensures serves { OnOk result (Serves (seen D.content self.old) (seen D.content self.new) (Deck deck.now ∷ []) out.old out.new) }
+        ensures desk { self.new.desk ≡ self.old.desk }
+        ensures goes { IsTrusted D.told D.content D.may_leave self.old.desk → OnOk result (Goes D.content D.moment D.left_since D.size self.old.desk self.new.desk) }
+        ensures halt { IsTrusted D.told D.content D.may_leave self.old.desk → IfErr result (λ halt. Stopped D.content D.moment D.left_since D.size self.old.desk (disk_of self.new.desk) (HaltsSo halt (staffed_of D.content self.old) (Deck deck.now ∷ []) out.old out.new)) }
+        ensures memory { IfErr result (λ halt. halt ≡ Halt.Memory) }
+    {
+        let _layout = self.desk.layout();
+        match refusal_of(self.alloc, deck) {
+            Ok(fault) => self.refuse_deck(fault.number, fault.card, out),
+            Err(NoMemory) => Err(Halt::Memory),
+        }
+    }
+
+    /// The cards of a deck are submitted.
+    fn submit(&mut self, cards: &[u8], out: &mut Text) -> Result<(), Halt>
         requires whole { length cards.now % 81 ≡ 0 }
         requires some { 81 ≤ length cards.now }
         requires few { length cards.now < 81 * 4294967295 }

@@ -1,6 +1,7 @@
 //! What the desk has of a stream between two lines.
 ghost use Rattle.std.specs.Prelude.{◌≡◌, ◌<◌, ◌≤◌, ◌+◌, ◌*◌, ◌^◌, [], ◌++◌, OnOk, IfErr, false, true, length};
 ghost use Rattle.ckr_outside.specs.Faults.{Rose};
+ghost use Rattle.ckr_cards.specs.Card.{stored_line};
 ghost use Rattle.ckr_cards.specs.Session.{first_session, handed_deck, handed_before, handed_alone, handed_with, session_behind};
 ghost use Rattle.ckr_desk.specs.Soundness.{IsTrusted};
 ghost use Rattle.ckr_service.specs.Stops.{Goes, Stopped};
@@ -16,9 +17,10 @@ use crate::roster::Roster;
 use crate::stop::Halt;
 use crate::text::Text;
 use ckr_base::NoMemory;
-use ckr_cards::{Cutter, Line, StoredCard, StoredDeck, stored_line};
+use ckr_cards::{Cutter, Line, StoredCard, stored_line};
 use ckr_console::Operator;
 use ckr_desk::Desk;
+use ckr_open_deck::OpenDeck;
 use ckr_outside::{Disk, Sink};
 use std::alloc::Global;
 
@@ -27,14 +29,14 @@ use std::alloc::Global;
 pub struct Session<D: Disk, O: Operator> {
     pub clerk: Clerk<D, O>,
     pub cutter: Cutter,
-    pub deck: StoredDeck,
+    pub deck: OpenDeck,
     pub number: u32,
 }
 
 /// The deck ends that is open, if there is one.
 fn end_deck<D: Disk, O: Operator>(
     clerk: &mut Clerk<D, O>,
-    deck: &mut StoredDeck,
+    deck: &mut OpenDeck,
     out: &mut Text,
 ) -> Result<(), Halt>
     requires few { length deck.old < 81 * 4294967295 }
@@ -53,7 +55,7 @@ fn end_deck<D: Disk, O: Operator>(
     if deck.is_empty() {
         return Ok(());
     }
-    clerk.submit(deck.bytes(), out)?;
+    clerk.end_deck(deck, out)?;
     deck.clear();
     Ok(())
 }
@@ -62,7 +64,7 @@ fn end_deck<D: Disk, O: Operator>(
 fn end_before<D: Disk, O: Operator>(
     kind: Line,
     clerk: &mut Clerk<D, O>,
-    deck: &mut StoredDeck,
+    deck: &mut OpenDeck,
     out: &mut Text,
 ) -> Result<(), Halt>
     requires few { length deck.old < 81 * 4294967295 }
@@ -87,11 +89,12 @@ fn end_before<D: Disk, O: Operator>(
 }
 
 /// The card of a line is kept where the line is of a deck.
-fn keep_card(kind: Line, deck: &mut StoredDeck, card: StoredCard) -> Result<(), NoMemory>
+fn keep_card(kind: Line, deck: &mut OpenDeck, text: &[u8], card: StoredCard) -> Result<(), NoMemory>
+    requires { card ≡ stored_line text.now }
     ensures { OnOk result (deck.new ≡ cards_with kind deck.old card) }
 {
     match kind {
-        Line::Starts | Line::Card => deck.push(card),
+        Line::Starts | Line::Card => deck.push(text, card),
         Line::Ends | Line::Command | Line::Stray | Line::Ignored => Ok(()),
     }
 }
@@ -140,7 +143,7 @@ impl<D: Disk, O: Operator> Session<D, O> {
         Session {
             clerk: Clerk::new(alloc, desk, roster),
             cutter: Cutter::new(),
-            deck: StoredDeck::new(alloc),
+            deck: OpenDeck::new(alloc),
             number: 0,
         }
     }
@@ -184,7 +187,7 @@ impl<D: Disk, O: Operator> Session<D, O> {
         let card = stored_line(text);
         let kind = self.cutter.card(text, &card);
         end_before(kind, &mut self.clerk, &mut self.deck, &mut lines.text)?;
-        keep_card(kind, &mut self.deck, card)?;
+        keep_card(kind, &mut self.deck, text, card)?;
         serve_line(kind, &mut self.clerk, self.number, text, lines, sink)
     }
 

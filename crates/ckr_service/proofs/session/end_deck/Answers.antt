@@ -1,4 +1,4 @@
-use Rattle.std.proofs.Common.{◌≡◌, ◌==◌, ℕ, false, List, [], ◌∷◌, length, refl, subst, sym, ◌∙◌, ap, arith}
+use Rattle.std.proofs.Common.{◌≡◌, ◌==◌, ℕ, false, List, [], ◌∷◌, length, refl, subst, sym, arith}
 use Rattle.std.proofs.lemmas.Bool.{false≢true}
 use Rattle.std.proofs.lemmas.Grind.{common_steps}
 use Rattle.ckr_cards.specs.Session.{Handed, handed_deck}
@@ -12,9 +12,8 @@ handed_some : (cards : List ℕ) → (length cards == 0) ≡ false → Deck card
 handed_some [] some = absurd (false≢true (sym some))
 handed_some (byte ∷ rest) some = refl
 
-deck_served : (a b : View) (cards given t u : List ℕ) → given ≡ cards → (length cards == 0) ≡ false → Serves a b (Deck given ∷ []) t u → Serves a b (handed_deck cards) t u
-deck_served a b cards given t u same some s =
-    subst (λ (requests : List Handed). Serves a b requests t u) (ap (λ (l : List ℕ). Deck l ∷ []) same ∙ handed_some cards some) s
+deck_served : {t u : List ℕ} (a b : View) (cards : List ℕ) → (length cards == 0) ≡ false → Serves a b (Deck cards ∷ []) t u → Serves a b (handed_deck cards) t u
+deck_served {t} {u} a b cards some s = subst (λ (requests : List Handed). Serves a b requests t u) (handed_some cards some) s
 
 pub returns-then-is_empty-clause-goes : goal.returns-then-is_empty-clause-goes
 returns-then-is_empty-clause-goes g c holds =
@@ -25,4 +24,4 @@ pub returns-clause-serves : goal.returns-clause-serves
 returns-clause-serves g c holds =
     let cards = c.args.deck.now in
     let some : (length cards == 0) ≡ false = grind (arith, common_steps, c.is_empty.ensures, c.if-is_empty.false) in
-    deck_served _ _ cards c.bytes.result.now _ _ c.bytes.ensures.value some (c.in_ok-submit.ensures.serves holds)
+    deck_served _ _ cards some (c.in_ok-end_deck.ensures.serves holds)

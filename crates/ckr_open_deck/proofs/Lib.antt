@@ -1,0 +1,9 @@
+pub mod PackedCards
+pub mod DeckFaults
+pub mod Statements
+pub mod LongCards
+pub mod LeftCards
+pub mod BegunStatements
+pub mod BegunFaults
+pub mod TooManyCards
+pub mod BegunDecks

@@ -1,0 +1,4 @@
+pub mod PackedLines
+pub mod LongDecks
+pub mod BegunStatements
+pub mod Decks
