@@ -61,7 +61,7 @@ const RECORD: &[u8] = b"A RECORD";
 
 const COPY: &[u8] = b"//J JOB\n//S EXEC PGM=COPY\n//SYSUT1 DD *";
 
-static REFUSALS: [Row; 10] = [
+static REFUSALS: [Row; 12] = [
     // One card too many.
     (
         LongDeck {
@@ -94,6 +94,17 @@ static REFUSALS: [Row; 10] = [
         16,
         2,
     ),
+    // Cards with slashes are records up to the delimiter.
+    (
+        LongDeck {
+            head: b"//J JOB\n//S EXEC PGM=COPY\n//SYSUT1 DD DATA",
+            line: b"//",
+            times: 100_000,
+            tail: Some(b"/*\n//SYSUT2 DD DSN=X.A,DISP=OLD"),
+        },
+        23,
+        100_001,
+    ),
     // A checkpoint data set behind it is one that the step reads.
     (
         LongDeck {
@@ -117,6 +128,18 @@ static REFUSALS: [Row; 10] = [
         },
         1,
         100_004,
+    ),
+    (
+        LongDeck {
+            head: STEP,
+            line: COMMENT,
+            times: 100_000,
+            tail: Some(
+                b"//A DD DSN=X.A                                                                  X",
+            ),
+        },
+        1,
+        100_003,
     ),
     (
         LongDeck {

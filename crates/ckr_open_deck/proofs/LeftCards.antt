@@ -1,5 +1,5 @@
 -- The next of the cards that are left: whether a statement goes on with it.
-use Rattle.std.proofs.Common.{◌≡◌, ℕ, ◌+◌, Bool, true, false, List, [], ◌∷◌, ◌++◌, ◌&&◌, drop, ap, ap₂, sym, ◌∙◌, append_assoc, if◌then◌else◌, Option}
+use Rattle.std.proofs.Common.{◌≡◌, ℕ, ◌+◌, Bool, true, List, [], ◌∷◌, ◌++◌, ◌&&◌, drop, ap, ap₂, sym, ◌∙◌, append_assoc, if◌then◌else◌, Option}
 use Rattle.std.specs.Option.{option_or}
 use Rattle.std.proofs.lemmas.List.{drop-drop}
 use Rattle.ckr_cards.specs.declared.card.Card.{Card}
@@ -25,10 +25,6 @@ continuation-more all more pushed calls next number left rest stored card so_far
     ∙ (ap (λ p. p ++ continuation (calls_again (columns card)) (stored_cards (number + 1) (drop 1 left))) (sym pushes)
     ∙ ap₂ (λ a l. pushed ++ continuation a (stored_cards (number + 1) l)) (sym again) (sym skips))))
 
--- it ends before the next card
-pub continuation-end : (calls : Bool) (number : ℕ) (left : List (List ℕ)) (stored : List ℕ) (card : Card) → left ≡ stored ∷ drop 1 left → card ≡ stored_card number stored → (calls && is_continuation (columns card)) ≡ false → continuation calls (stored_cards number left) ≡ []
-continuation-end calls number left stored card split is ends = continuation-step calls false number left stored card split is ends
-
 -- ---- records
 
 records-step : (ends : InStream) (on : Bool) (number : ℕ) (left : List (List ℕ)) (stored : List ℕ) (card : Card) → left ≡ stored ∷ drop 1 left → card ≡ stored_card number stored → is_record ends (columns card) ≡ on → records_in ends (stored_cards number left) ≡ (if on then card ∷ records_in ends (stored_cards (number + 1) (drop 1 left)) else [])
@@ -42,9 +38,6 @@ pub records-next : (ends : InStream) (number next : ℕ) (left rest : List (List
 records-next ends number next left rest stored card split is goes following skips =
     records-step ends true number left stored card split is goes
     ∙ ap₂ (λ n l. card ∷ records_in ends (stored_cards n l)) (sym following) (sym skips)
-
-pub records-end : (ends : InStream) (number : ℕ) (left : List (List ℕ)) (stored : List ℕ) (card : Card) → left ≡ stored ∷ drop 1 left → card ≡ stored_card number stored → is_record ends (columns card) ≡ false → records_in ends (stored_cards number left) ≡ []
-records-end ends number left stored card split is goes = records-step ends false number left stored card split is goes
 
 -- the first of the long lines, with the next record
 pub long-record-next : (all before next : Option ℕ) (records behind : List Card) (card : Card) → all ≡ option_or before (long_card records) → records ≡ card ∷ behind → next ≡ option_or before (long_card (card ∷ [])) → all ≡ option_or next (long_card behind)

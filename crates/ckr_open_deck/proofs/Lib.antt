@@ -3,7 +3,7 @@ pub mod DeckFaults
 pub mod Statements
 pub mod LongCards
 pub mod LeftCards
-pub mod BegunStatements
-pub mod BegunFaults
+pub mod StatementHeads
+pub mod HeadFaults
 pub mod TooManyCards
-pub mod BegunDecks
+pub mod HeadDecks

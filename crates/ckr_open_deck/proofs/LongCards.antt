@@ -9,7 +9,7 @@ abbrev is_long : Card → Bool
 is_long card = card.long
 
 -- it is the first card, or one of those behind it
-pub long-more : (card : Card) (rest : List Card) → long_card (card ∷ rest) ≡ option_or (long_card (card ∷ [])) (long_card rest)
+long-more : (card : Card) (rest : List Card) → long_card (card ∷ rest) ≡ option_or (long_card (card ∷ [])) (long_card rest)
 long-more card rest = by card.long
   where
     by : (long : Bool) → number_of_card (cond long (Some card) (find is_long rest)) ≡ option_or (number_of_card (cond long (Some card) None)) (number_of_card (find is_long rest))

@@ -16,14 +16,14 @@ use Rattle.ckr_open_deck.specs.declared.open_deck.PackedLine.{PackedLine}
 -- ---- cards of 81 bytes
 
 -- the bytes of cards, one behind the other
-abbrev pub joined : List (List ℕ) → List ℕ
+abbrev joined : List (List ℕ) → List ℕ
 joined cards = flat_map (λ card. card) cards
 
-pub length-joined : (cards : List (List ℕ)) → AreWhole cards → length (joined cards) ≡ 81 * length cards
+length-joined : (cards : List (List ℕ)) → AreWhole cards → length (joined cards) ≡ 81 * length cards
 length-joined [] whole = refl
 length-joined (card ∷ rest) whole = omega (arith, length-append card (joined rest), whole.0, length-joined rest whole.1)
 
-pub first_chunks-joined : (cards : List (List ℕ)) → AreWhole cards → first_chunks 81 (length cards) (joined cards) ≡ cards
+first_chunks-joined : (cards : List (List ℕ)) → AreWhole cards → first_chunks 81 (length cards) (joined cards) ≡ cards
 first_chunks-joined [] whole = refl
 first_chunks-joined (card ∷ rest) whole =
     ap₂ (λ chunk more. chunk ∷ more) (take-front 81 card (joined rest) whole.0)
@@ -41,7 +41,7 @@ cards_in_bytes-joined cards whole =
 
 -- ---- lines that are packed
 
-pub length-unpacked_line : (line : PackedLine) (text : List ℕ) → length (unpacked_line line text) ≡ 81
+length-unpacked_line : (line : PackedLine) (text : List ℕ) → length (unpacked_line line text) ≡ 81
 length-unpacked_line line text = length-append (filled text) ((if line.long then 1 else 0) ∷ []) ∙ ap (λ n. n + 1) (length-filled text)
 
 -- as many cards as lines
@@ -49,7 +49,7 @@ pub length-unpacked : (lines : List PackedLine) (text : List ℕ) → length (un
 length-unpacked [] text = refl
 length-unpacked (line ∷ rest) text = omega (arith, length-unpacked rest (drop line.length text))
 
-pub unpacked-whole : (lines : List PackedLine) (text : List ℕ) → AreWhole (unpacked lines text)
+unpacked-whole : (lines : List PackedLine) (text : List ℕ) → AreWhole (unpacked lines text)
 unpacked-whole [] text = tt
 unpacked-whole (line ∷ rest) text = (length-unpacked_line line (take line.length text), unpacked-whole rest (drop line.length text))
 
@@ -57,19 +57,19 @@ pub all-whole : (cards : List (List ℕ)) (lines : List PackedLine) (text : List
 all-whole cards lines text whole = each-append (λ card. length card ≡ 81) cards (unpacked lines text) whole (unpacked-whole lines text)
 
 -- a line more
-pub unpacked-more : (lines : List PackedLine) (text : List ℕ) (line : PackedLine) (front : List ℕ) → width lines ≡ length text → line.length ≡ length front → unpacked (lines ++ line ∷ []) (text ++ front) ≡ unpacked lines text ++ unpacked_line line front ∷ []
+unpacked-more : (lines : List PackedLine) (text : List ℕ) (line : PackedLine) (front : List ℕ) → width lines ≡ length text → line.length ≡ length front → unpacked (lines ++ line ∷ []) (text ++ front) ≡ unpacked lines text ++ unpacked_line line front ∷ []
 unpacked-more [] [] line front same size = ap (λ t. unpacked_line line t ∷ []) (take_all line.length front (omega arith))
 unpacked-more [] (byte ∷ text) line front same size = absurd (omega (arith, same))
 unpacked-more (first ∷ rest) text line front same size =
     ap₂ (λ t more. unpacked_line first t ∷ more) (take-append-le first.length text front (omega arith))
     (ap (λ t. unpacked (rest ++ line ∷ []) t) (drop-append-le first.length text front (omega arith)) ∙ unpacked-more rest (drop first.length text) line front (omega (arith, length-drop first.length text)) size)
 
-pub width-more : (lines : List PackedLine) (line : PackedLine) → width (lines ++ line ∷ []) ≡ width lines + line.length
+width-more : (lines : List PackedLine) (line : PackedLine) → width (lines ++ line ∷ []) ≡ width lines + line.length
 width-more [] line = omega arith
 width-more (first ∷ rest) line = omega (arith, width-more rest line)
 
 -- a line is filled as its first 80 bytes are
-pub filled-front : (line : List ℕ) → filled (take 80 line) ≡ filled line
+filled-front : (line : List ℕ) → filled (take 80 line) ≡ filled line
 unfolding filled
 filled-front line = by (nat_le (length line) 80) refl
   where
@@ -93,7 +93,7 @@ abbrev pub packed_line : ℕ → List ℕ → PackedLine
 packed_line count line = record { length = length (take count line); long = nat_lt 80 (length line) }
 
 -- its card is that of the line
-pub unpacked-packed : (line : List ℕ) (count : ℕ) → count ≡ min (length line) 80 → unpacked_line (packed_line count line) (take count line) ≡ stored_line line
+unpacked-packed : (line : List ℕ) (count : ℕ) → count ≡ min (length line) 80 → unpacked_line (packed_line count line) (take count line) ≡ stored_line line
 unpacked-packed line count few =
     ap (λ columns. columns ++ (if nat_lt 80 (length line) then 1 else 0) ∷ []) (ap filled (take-most80 line count few) ∙ filled-front line)
 
@@ -110,7 +110,7 @@ deck-size {cards} {lines} {text} packed = length-joined (cards ++ unpacked lines
 pub deck-many : {cards : List (List ℕ)} {lines : List PackedLine} {text : List ℕ} → IsPacked cards lines text → 100000 < length cards → 8100000 < length (deck_bytes cards lines text)
 deck-many {cards} {lines} {text} packed many = omega (arith, deck-size packed, length-append cards (unpacked lines text))
 
-pub deck-stored : {cards : List (List ℕ)} {lines : List PackedLine} {text : List ℕ} → IsPacked cards lines text → 8100000 < length (deck_bytes cards lines text) → 100000 < length cards
+deck-stored : {cards : List (List ℕ)} {lines : List PackedLine} {text : List ℕ} → IsPacked cards lines text → 8100000 < length (deck_bytes cards lines text) → 100000 < length cards
 deck-stored {cards} {lines} {text} packed many = by (nat_le (length cards) 100000) refl
   where
     more : (n : ℕ) → nat_le n 100000 ≡ false → 100000 < n

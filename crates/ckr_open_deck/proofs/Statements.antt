@@ -12,8 +12,9 @@ use Rattle.ckr_cards.specs.Field.{goes_on}
 use Rattle.ckr_cards.specs.Statement.{kind_of, is_named, first_field, continuation, calls_first, comes_to_end, whole_field, records_behind, records_after, is_record, records_in, in_stream, with_field, with_more, bare, statement_at, statement_of_cards}
 use Rattle.ckr_jcl_faults.specs.declared.faults.Fault.{Fault}
 use Rattle.ckr_jcl_faults.specs.declared.faults.MetFaults.{MetFaults}
-use Rattle.ckr_jcl_faults.specs.Faults.{long_card, long_line, byte_fault, name_fault, kind_fault, early_dd, continuation_fault, closing_fault, unknown_operand, left_out_keyword, wrong_value, clashing_operand, faults_of_operands, faults_of_field, faults_of, fault_at, least_fault, seen_behind}
+use Rattle.ckr_jcl_faults.specs.Faults.{long_card, long_line, byte_fault, name_fault, kind_fault, early_dd, continuation_fault, closing_fault, unknown_operand, left_out_keyword, wrong_value, clashing_operand, faults_of_operands, faults_of_field, faults_of, fault_at, least_fault}
 use Rattle.ckr_open_deck.specs.LongDecks.{without_records}
+use Rattle.ckr_cards.proofs.CutRuns.{continuation-none}
 
 -- ---- the faults of a statement
 
@@ -75,28 +76,24 @@ long_own seen s card long =
     ∙ least-own seen s card (long_card s.records)
     ∙ sym (least-bare seen s ∙ ap (λ own. least-by own None seen s) long)
 
--- what was seen behind a statement
-pub seen_same : (seen : MetFaults) (s : Statement) → seen_behind seen (without_records s) ≡ seen_behind seen s
-seen_same seen s = refl
-
 -- ---- the cards of a statement
 
 -- the statement that begins with a card, by whether it has a name
-abbrev begun : Bool → StatementKind → Card → List Card → Statement
-begun named kind first rest =
+abbrev whole_by : Bool → StatementKind → Card → List Card → Statement
+whole_by named kind first rest =
     if named then with_more kind first (continuation (goes_on (first_field (columns first))) rest) rest else bare kind first
 
 -- the statement of its own cards
-abbrev begun_alone : Bool → StatementKind → Card → List Card → Statement
-begun_alone named kind first more =
+abbrev own_by : Bool → StatementKind → Card → List Card → Statement
+own_by named kind first more =
     if named
     then with_field kind first more (comes_to_end (goes_on (first_field (columns first))) more) (whole_field first more) []
     else bare kind first
 
 -- the two are the same but for the records
 read-by : (named : Bool) (kind : StatementKind) (first : Card) (rest : List Card)
-    → begun_alone named kind first (continuation (named && goes_on (first_field (columns first))) rest)
-    ≡ without_records (begun named kind first rest)
+    → own_by named kind first (continuation (named && goes_on (first_field (columns first))) rest)
+    ≡ without_records (whole_by named kind first rest)
 unfolding with_more with_field bare
 read-by true kind first rest = refl
 read-by false kind first rest = refl
@@ -124,15 +121,10 @@ unfolding is_record
 records-none [] = refl
 records-none (card ∷ rest) = refl
 
--- no card is, where none is called for
-continuation-none : (rest : List Card) → continuation false rest ≡ []
-continuation-none [] = refl
-continuation-none (card ∷ rest) = refl
-
 -- the records behind a statement, by whether it has a name
 records-by : (named : Bool) (kind : StatementKind) (first : Card) (rest : List Card) → is_named (kind_of (columns first)) ≡ named
-    → (begun named kind first rest).records
-    ≡ records_in (in_stream (begun named kind first rest)) (drop (length (begun named kind first rest).more) rest)
+    → (whole_by named kind first rest).records
+    ≡ records_in (in_stream (whole_by named kind first rest)) (drop (length (whole_by named kind first rest).more) rest)
 unfolding with_more with_field bare records_after
 records-by true kind first rest is = refl
 records-by false kind first rest is =
@@ -147,7 +139,7 @@ records_behind_statement first rest = records-by (is_named (kind_of (columns fir
 
 -- its further cards, by whether it has a name
 more-by : (named : Bool) (kind : StatementKind) (first : Card) (rest : List Card)
-    → (begun named kind first rest).more ≡ continuation (named && goes_on (first_field (columns first))) rest
+    → (whole_by named kind first rest).more ≡ continuation (named && goes_on (first_field (columns first))) rest
 unfolding with_more with_field bare
 more-by true kind first rest = refl
 more-by false kind first rest = sym (continuation-none rest)

@@ -16,7 +16,7 @@ use Rattle.ckr_jcl_decks.specs.Deck.{answer_of, job_in, job_unless, judged, deck
 use Rattle.ckr_jcl_decks.specs.DeckFaults.{deck_faults, faults_of_names, faults_of_uses, limit_fault, lesser, step_beyond, dd_beyond, card_beyond, no_step}
 use Rattle.ckr_jcl_decks.specs.ReaderErrors.{TellsFault}
 use Rattle.ckr_jcl_decks.proofs.StatementNames.{none_at}
-use Rattle.ckr_open_deck.specs.BegunStatements.{IsTextWithout}
+use Rattle.ckr_open_deck.specs.StatementHeads.{IsTextWithout}
 use Rattle.ckr_open_deck.proofs.DeckFaults.{deck_faults_same}
 
 -- ---- it has a fault

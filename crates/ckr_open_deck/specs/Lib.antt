@@ -1,4 +1,4 @@
 pub mod PackedLines
 pub mod LongDecks
-pub mod BegunStatements
+pub mod StatementHeads
 pub mod Decks

@@ -20,7 +20,7 @@ pub(crate) struct PackedLine {
 /// The cards of the open deck, one behind the other. It is seen as their bytes, 81 for each: 80 columns, and 1 where the line was longer.
 ///
 /// A deck that can still be accepted has its cards as they are submitted. Of a deck with more cards than it may have the further ones are
-/// kept as their lines, which have as many bytes as the stream and two more each.
+/// kept as their lines: at most 80 bytes of each as they came, and two more.
 #[derive(Drop)]
 pub struct OpenDeck {
     pub(crate) cards: Vec<StoredCard>,

@@ -10,12 +10,12 @@ ghost use Rattle.ckr_jcl_faults.specs.Faults.{faults_of, first_fault, least_faul
 ghost use Rattle.ckr_jcl_decks.specs.Deck.{stored_deck};
 ghost use Rattle.ckr_jcl_decks.specs.DeckFaults.{deck_faults};
 ghost use Rattle.ckr_jcl_decks.specs.ReaderErrors.{TellsFault};
-ghost use Rattle.ckr_open_deck.specs.BegunStatements.{IsBegun, IsTextWithout, statement_left};
+ghost use Rattle.ckr_open_deck.specs.StatementHeads.{IsHead, IsTextWithout, statement_left};
 ghost use Rattle.ckr_open_deck.specs.LongDecks.{without_records};
 
 use crate::cards_left::CardsLeft;
 use crate::open_deck::OpenDeck;
-use crate::statement::{Begun, read_begun};
+use crate::statement::{StatementHead, read_head};
 use ckr_base::NoMemory;
 use ckr_cards::{Card, Statement, StoredCard};
 use ckr_jcl::DeckError;
@@ -47,16 +47,17 @@ fn is_long(statement: &Statement) -> bool
 }
 
 /// The least fault of a statement that was read without its records, which count for it too. Where it has none, its name is well formed.
-fn fault_of(seen: MetFaults, begun: &Begun) -> Option<Fault>
-    ensures value { (s : Statement) → IsBegun begun.now s → result ≡ least_fault (faults_of seen s) }
-    ensures first { result ≡ None → begun.now.statement.first.number ≡ 1 → IsTrue (is_name8 (name_in begun.now.statement)) }
-    ensures named { result ≡ None → IsTrue (is_named begun.now.statement.kind) → IsTrue (is_name8 (name_in begun.now.statement)) }
+fn fault_of(seen: MetFaults, head: &StatementHead) -> Option<Fault>
+    ensures value { (s : Statement) → IsHead head.now s → result ≡ least_fault (faults_of seen s) }
+    ensures first { result ≡ None → head.now.statement.first.number ≡ 1 → IsTrue (is_name8 (name_in head.now.statement)) }
+    ensures named { result ≡ None → IsTrue (is_named head.now.statement.kind) → IsTrue (is_name8 (name_in head.now.statement)) }
 {
-    let least = least_fault(seen, &begun.statement);
-    if is_long(&begun.statement) {
+    let least = least_fault(seen, &head.statement);
+    // Where a card of its own is of such a line, that is the fault of its first long card, and no record's.
+    if is_long(&head.statement) {
         return least;
     }
-    fault_at(1, begun.long, least)
+    fault_at(1, head.long, least)
 }
 
 /// Reads the first statement, which begins with card 1. What is left begins with the next one. The error is its least fault, or the want of memory.
@@ -73,21 +74,21 @@ fn read_first(
     ensures left { IfOk result (λ read. left.new ≡ drop (cards_behind (statement_left 1 first.now left.old)) left.old) }
     ensures fault { IfErr result (λ error. TellsFault error (least_fault (faults_of nothing_seen (statement_left 1 first.now left.old)))) }
 {
-    let begun = read_begun(alloc, 1, first, left)?;
+    let head = read_head(alloc, 1, first, left)?;
     let nothing = MetFaults {
         exec: false,
         syschk: false,
     };
-    if let Some(fault) = fault_of(nothing, &begun) {
+    if let Some(fault) = fault_of(nothing, &head) {
         return Err(DeckError::At {
             number: fault.number,
             card: fault.card,
         });
     }
     Ok(Progress {
-        seen: seen_behind(nothing, &begun.statement),
-        job: JobText::new(alloc, &begun.statement),
-        number: 2 + begun.behind,
+        seen: seen_behind(nothing, &head.statement),
+        job: JobText::new(alloc, &head.statement),
+        number: 2 + head.behind,
     })
 }
 
@@ -106,19 +107,19 @@ fn read_next(
     ensures left { IfOk result (λ read. left.new ≡ drop (cards_behind (statement_left before.number first.now left.old)) left.old) }
     ensures fault { IfErr result (λ error. TellsFault error (least_fault (faults_of before.seen (statement_left before.number first.now left.old)))) }
 {
-    let begun = read_begun(alloc, before.number, first, left)?;
-    if let Some(fault) = fault_of(before.seen, &begun) {
+    let head = read_head(alloc, before.number, first, left)?;
+    if let Some(fault) = fault_of(before.seen, &head) {
         return Err(DeckError::At {
             number: fault.number,
             card: fault.card,
         });
     }
-    let seen = seen_behind(before.seen, &begun.statement);
-    let job = before.job.with_statement(alloc, begun.statement)?;
+    let seen = seen_behind(before.seen, &head.statement);
+    let job = before.job.with_statement(alloc, head.statement)?;
     Ok(Progress {
         seen,
         job,
-        number: before.number + 1 + begun.behind,
+        number: before.number + 1 + head.behind,
     })
 }
 
@@ -168,7 +169,8 @@ fn fault_beyond(alloc: Global, cards: u32, job: &JobText) -> Result<Fault, NoMem
 
 /// Why a deck is refused that has more cards than it may have (IBM GC28-6704 and this project's profile): card 100,001 breaks J23, and a rule
 /// comes before it that a statement breaks by itself, wherever it stands, or that holds at a lesser card, for which those behind may count.
-/// Its statements are read one after the other, and no record of them is kept. `NoMemory` says nothing of the deck.
+/// Its statements are read one after the other, and no record of them is kept. It has fewer than 4,294,967,295 cards. `NoMemory` says nothing
+/// of the deck.
 pub fn refusal_of(alloc: Global, deck: &OpenDeck) -> Result<Fault, NoMemory>
     requires many { 81 * 100000 < length deck.now }
     requires few { length deck.now < 81 * 4294967295 }

@@ -16,7 +16,7 @@ use std::alloc::Global;
 
 /// A statement without its records.
 #[derive(Drop)]
-pub(crate) struct Begun {
+pub(crate) struct StatementHead {
     pub statement: Statement,
     /// The first of its records whose line was longer than 80 bytes, if there is one.
     pub long: Option<u32>,
@@ -26,7 +26,7 @@ pub(crate) struct Begun {
 
 /// Records that were gone past.
 #[derive(Drop)]
-struct Passed {
+struct SkippedRecords {
     count: u32,
     /// The first of them whose line was longer than 80 bytes, if there is one.
     long: Option<u32>,
@@ -71,7 +71,7 @@ fn first_long(before: Option<u32>, card: &Card) -> Option<u32>
 }
 
 /// Goes past the records of a statement. What is left begins with the card of this number, and afterwards with the one that ends them.
-fn pass_records(first: u32, ends: InStream, left: &mut CardsLeft) -> Passed
+fn skip_records(first: u32, ends: InStream, left: &mut CardsLeft) -> SkippedRecords
     requires { first + length left.old < 2 ^ 32 }
     ensures count { result.count ≡ length (records_in ends (stored_cards first left.old)) }
     ensures long { result.long ≡ long_card (records_in ends (stored_cards first left.old)) }
@@ -83,37 +83,37 @@ fn pass_records(first: u32, ends: InStream, left: &mut CardsLeft) -> Passed
     while let Some(stored) = left.peek() {
         let card = Card::stored(first + count, &stored);
         if !is_record(ends, card.columns()) {
-            return Passed { count, long };
+            return SkippedRecords { count, long };
         }
         long = first_long(long, &card);
         count += 1;
         left.skip();
     }
-    Passed { count, long }
+    SkippedRecords { count, long }
 }
 
 /// The statement that begins with the card of a number, before what is left, which is gone through up to the next statement.
-pub(crate) fn read_begun(
+pub(crate) fn read_head(
     alloc: Global,
     number: u32,
     first: &StoredCard,
     left: &mut CardsLeft,
-) -> Result<Begun, NoMemory>
+) -> Result<StatementHead, NoMemory>
     requires { number + 1 + length left.old < 2 ^ 32 }
-    ensures statement { IfOk result (λ begun. begun.statement ≡ without_records (statement_at (stored_card number first.now) (stored_cards (number + 1) left.old))) }
-    ensures long { IfOk result (λ begun. begun.long ≡ long_card (statement_at (stored_card number first.now) (stored_cards (number + 1) left.old)).records) }
-    ensures behind { IfOk result (λ begun. begun.behind ≡ cards_behind (statement_at (stored_card number first.now) (stored_cards (number + 1) left.old))) }
-    ensures left { IfOk result (λ begun. left.new ≡ drop begun.behind left.old) }
+    ensures statement { IfOk result (λ head. head.statement ≡ without_records (statement_at (stored_card number first.now) (stored_cards (number + 1) left.old))) }
+    ensures long { IfOk result (λ head. head.long ≡ long_card (statement_at (stored_card number first.now) (stored_cards (number + 1) left.old)).records) }
+    ensures behind { IfOk result (λ head. head.behind ≡ cards_behind (statement_at (stored_card number first.now) (stored_cards (number + 1) left.old))) }
+    ensures left { IfOk result (λ head. left.new ≡ drop head.behind left.old) }
 {
     let card = Card::stored(number, first);
     let calls = calls_first(card.columns());
     let more = read_continuation(alloc, number + 1, calls, left)?;
     let own = more.as_slice().len() as u32;
     let statement = statement_of_cards(alloc, card, more)?;
-    let passed = pass_records(number + 1 + own, statement.in_stream(), left);
-    Ok(Begun {
+    let skipped = skip_records(number + 1 + own, statement.in_stream(), left);
+    Ok(StatementHead {
         statement,
-        long: passed.long,
-        behind: own + passed.count,
+        long: skipped.long,
+        behind: own + skipped.count,
     })
 }

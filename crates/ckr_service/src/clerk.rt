@@ -127,7 +127,7 @@ impl<D: Disk, O: Operator> Clerk<D, O> {
         }
     }
 
-    /// A deck ends, which has a card. One with more cards than it may have is refused without the desk.
+    /// A deck ends, which has a card. One with more cards than it may have is refused without the desk, as the desk would.
     pub fn end_deck(&mut self, deck: &OpenDeck, out: &mut Text) -> Result<(), Halt>
         requires some { 0 < length deck.now }
         requires few { length deck.now < 81 * 4294967295 }
@@ -140,6 +140,7 @@ impl<D: Disk, O: Operator> Clerk<D, O> {
         ensures size { D.size (disk_of self.new.desk) ≡ D.size (disk_of self.old.desk) }
         ensures halt { IsTrusted D.told D.content D.may_leave self.old.desk → IfErr result (λ halt. Stopped D.content D.moment D.left_since D.size self.old.desk (disk_of self.new.desk) (HaltsSo halt (staffed_of D.content self.old) (Deck deck.now ∷ []) out.old out.new)) }
         ensures cause { IfErr result (λ halt. HaltCause (IsTrusted D.told D.content D.may_leave self.old.desk) halt (D.faults (disk_of self.old.desk)) (D.faults (disk_of self.new.desk))) }
+        ensures long { 81 * 100000 < length deck.now → self.new.desk ≡ self.old.desk }
     {
         let _layout = self.desk.layout();
         match deck.bytes() {

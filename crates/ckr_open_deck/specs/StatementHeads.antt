@@ -6,7 +6,7 @@ use Rattle.ckr_cards.specs.Statement.{statement_at}
 use Rattle.ckr_jcl_faults.specs.declared.deck_text.JobText.{JobText}
 use Rattle.ckr_jcl_faults.specs.DeckText.{job_text, with_statement}
 use Rattle.ckr_jcl_faults.specs.Faults.{long_card}
-use Rattle.ckr_open_deck.specs.declared.statement.Begun.{Begun}
+use Rattle.ckr_open_deck.specs.declared.statement.StatementHead.{StatementHead}
 use Rattle.ckr_open_deck.specs.LongDecks.{without_records}
 
 -- the statement that begins with the card of a number, before the cards that are left
@@ -14,9 +14,9 @@ abbrev pub statement_left : ℕ → List ℕ → List (List ℕ) → Statement
 statement_left number first left = statement_at (stored_card number first) (stored_cards (number + 1) left)
 
 -- a statement without its records, and the first of these whose line was longer
-pub record IsBegun (begun : Begun) (s : Statement) : Type 0 where
-  pub statement : begun.statement ≡ without_records s
-  pub long : begun.long ≡ long_card s.records
+pub record IsHead (head : StatementHead) (s : Statement) : Type 0 where
+  pub statement : head.statement ≡ without_records s
+  pub long : head.long ≡ long_card s.records
 
 -- what the statements of a deck say, the records apart, before its last step is closed
 abbrev pub IsTextWithout : List Statement → JobText → Type 0

@@ -3,7 +3,7 @@ use Rattle.std.proofs.lemmas.Grind.{common_steps}
 use Rattle.ckr_cards.specs.Card.{columns}
 use Rattle.ckr_cards.specs.Statement.{is_record}
 use Rattle.ckr_open_deck.proofs.LeftCards.{records-next, long-record-next, left-next}
-use Rattle.ckr_open_deck.proofs.statement.pass_records.Goals as goal
+use Rattle.ckr_open_deck.proofs.statement.skip_records.Goals as goal
 
 pub loop-stored-preserved : goal.loop-stored-preserved
 loop-stored-preserved c =

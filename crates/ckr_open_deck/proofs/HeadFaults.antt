@@ -5,8 +5,8 @@ use Rattle.ckr_cards.specs.declared.card.Card.{Card}
 use Rattle.ckr_cards.specs.declared.statement.Statement.{Statement}
 use Rattle.ckr_jcl_faults.specs.declared.faults.MetFaults.{MetFaults}
 use Rattle.ckr_jcl_faults.specs.Faults.{faults_of, least_fault, fault_at, long_card}
-use Rattle.ckr_open_deck.specs.declared.statement.Begun.{Begun}
-use Rattle.ckr_open_deck.specs.BegunStatements.{IsBegun}
+use Rattle.ckr_open_deck.specs.declared.statement.StatementHead.{StatementHead}
+use Rattle.ckr_open_deck.specs.StatementHeads.{IsHead}
 use Rattle.ckr_open_deck.specs.LongDecks.{without_records}
 use Rattle.ckr_open_deck.proofs.LongCards.{long-some, long-none}
 use Rattle.ckr_open_deck.proofs.Statements.{no_long_record, long_record, long_own}
@@ -24,11 +24,11 @@ least-short : (seen : MetFaults) (s : Statement) (long : Option ℕ) → long_ca
 least-short seen s None own none = sym (no_long_record seen s none)
 least-short seen s (Some card) own long = sym (long_record seen s card own long)
 
-pub fault-long : (seen : MetFaults) (begun : Begun) (s : Statement) → IsBegun begun s → has_long begun.statement ≡ true → least_fault (faults_of seen begun.statement) ≡ least_fault (faults_of seen s)
-fault-long seen begun s is found =
+pub fault-long : (seen : MetFaults) (head : StatementHead) (s : Statement) → IsHead head s → has_long head.statement ≡ true → least_fault (faults_of seen head.statement) ≡ least_fault (faults_of seen s)
+fault-long seen head s is found =
     subst (λ (t : Statement). has_long t ≡ true → least_fault (faults_of seen t) ≡ least_fault (faults_of seen s)) (sym is.statement) (least-long seen s) found
 
-pub fault-short : (seen : MetFaults) (begun : Begun) (s : Statement) → IsBegun begun s → has_long begun.statement ≡ false → fault_at 1 begun.long (least_fault (faults_of seen begun.statement)) ≡ least_fault (faults_of seen s)
-fault-short seen begun s is found =
-    subst (λ (t : Statement). has_long t ≡ false → fault_at 1 begun.long (least_fault (faults_of seen t)) ≡ least_fault (faults_of seen s)) (sym is.statement)
-    (λ none. least-short seen s begun.long (long-none (s.first ∷ s.more) none) (sym is.long)) found
+pub fault-short : (seen : MetFaults) (head : StatementHead) (s : Statement) → IsHead head s → has_long head.statement ≡ false → fault_at 1 head.long (least_fault (faults_of seen head.statement)) ≡ least_fault (faults_of seen s)
+fault-short seen head s is found =
+    subst (λ (t : Statement). has_long t ≡ false → fault_at 1 head.long (least_fault (faults_of seen t)) ≡ least_fault (faults_of seen s)) (sym is.statement)
+    (λ none. least-short seen s head.long (long-none (s.first ∷ s.more) none) (sym is.long)) found

@@ -8,7 +8,7 @@ use Rattle.ckr_cards.proofs.Decks.{stored_fits}
 use Rattle.ckr_jcl_faults.specs.declared.deck_text.JobText.{JobText}
 use Rattle.ckr_jcl_faults.specs.DeckText.{job_text, with_statement}
 use Rattle.ckr_jcl_decks.proofs.StatementOrder.{step_read, job_more}
-use Rattle.ckr_open_deck.specs.BegunStatements.{IsTextWithout, statement_left}
+use Rattle.ckr_open_deck.specs.StatementHeads.{IsTextWithout, statement_left}
 use Rattle.ckr_open_deck.specs.LongDecks.{without_records}
 
 -- the statements of the cards that are left: the next one, and those behind it
@@ -24,10 +24,10 @@ last-number number next left rest behind first split skips following goes =
     omega (arith, ap length goes ∙ length-drop (cards_behind (statement_left number first rest)) rest)
 
 -- what a job says with one more statement
-pub job-next : (begun job next : JobText) (all rest more : List Statement) (s : Statement) → fold with_statement begun (map without_records all) ≡ fold with_statement job (map without_records rest) → rest ≡ s ∷ more → next ≡ with_statement job (without_records s) → fold with_statement begun (map without_records all) ≡ fold with_statement next (map without_records more)
-job-next begun job next all rest more s so_far split following =
-    job_more begun job next (map without_records all) (map without_records rest) (map without_records more) (without_records s) so_far (ap (λ l. map without_records l) split) following
+pub job-next : (head job next : JobText) (all rest more : List Statement) (s : Statement) → fold with_statement head (map without_records all) ≡ fold with_statement job (map without_records rest) → rest ≡ s ∷ more → next ≡ with_statement job (without_records s) → fold with_statement head (map without_records all) ≡ fold with_statement next (map without_records more)
+job-next head job next all rest more s so_far split following =
+    job_more head job next (map without_records all) (map without_records rest) (map without_records more) (without_records s) so_far (ap (λ l. map without_records l) split) following
 
-pub text-without : (all behind : List Statement) (s : Statement) (begun job : JobText) → all ≡ s ∷ behind → begun ≡ job_text (without_records s) → job ≡ fold with_statement begun (map without_records behind) → IsTextWithout all job
-text-without all behind s begun job split first rest =
+pub text-without : (all behind : List Statement) (s : Statement) (head job : JobText) → all ≡ s ∷ behind → head ≡ job_text (without_records s) → job ≡ fold with_statement head (map without_records behind) → IsTextWithout all job
+text-without all behind s head job split first rest =
     subst (λ l. IsTextWithout l job) (sym split) (rest ∙ ap (λ b. fold with_statement b (map without_records behind)) first)

@@ -3,7 +3,7 @@ use Rattle.std.specs.Option.{option_or}
 use Rattle.ckr_cards.specs.Card.{stored_cards}
 use Rattle.ckr_cards.specs.Statement.{records_in}
 use Rattle.ckr_jcl_faults.specs.Faults.{long_card}
-use Rattle.ckr_open_deck.proofs.statement.pass_records.Given as goal
+use Rattle.ckr_open_deck.proofs.statement.skip_records.Given as goal
 
 abbrev pub invariant-loop-stored : goal.invariant-loop-stored
 invariant-loop-stored l = record {
