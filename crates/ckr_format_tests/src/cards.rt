@@ -21,8 +21,10 @@ fn lines_of_a_stream(rt: HostRuntime) {
         (b"T 1 9", Line::Stray),
     ];
     let mut cutter = Cutter::new();
+    let mut by_cards = Cutter::new();
     for (text, kind) in lines {
         assert!(rt; cutter.line(text) == kind);
+        assert!(rt; by_cards.card(text, &stored_line(text)) == kind);
     }
 }
 

@@ -24,7 +24,7 @@ use Rattle.ckr_jcl_faults.specs.declared.deck_text.JobText.{JobText}
 use Rattle.ckr_jcl_faults.specs.DdFaults.{is_left_out_dd, breaks_role, is_wrong_use, is_wrong_space, is_wrong_record, breaks, is_temporary, keeps, is_new}
 use Rattle.ckr_jcl_faults.specs.DeckText.{dd_text, role_in, step_text, with_dd, job_text, current_step, closed, with_step, dd_in, with_statement, deck_text}
 use Rattle.ckr_jcl_decks.specs.DeckFaults.{step_card, dd_card, step_where, dd_where, dd_in_steps, syschk_where, dd_or_syschk, is_step_of, step_place, no_step_of, restart_step_fault, names_checkpoint, is_right_syschk, syschk_fault, checkpoint_fault, has_no_program, program_fault, has_wrong_parm, parm_text_fault, is_dd_of, has_dd, has_dds, parm_of, has_checkpoint_dd, has_needed_dds, lacks_needed, lacks_dd, missing_dd, has_dsn, has_dd_name, is_repeated_dd, repeated_dd, has_step_name, repeated_in, repeated_name, step_beyond, dd_beyond, card_beyond, no_step, lesser, limit_fault, is_checkpointed_on, any_dd, is_worked, meets_checkpoint, checkpoint_name_fault, faults_of_uses, faults_of_names, deck_faults}
-use Rattle.ckr_open_deck.specs.LongDecks.{without_records}
+use Rattle.ckr_open_deck.specs.StatementHeads.{without_records}
 
 -- ---- a deck without its records
 

@@ -8,8 +8,7 @@ use Rattle.ckr_cards.proofs.Decks.{stored_fits}
 use Rattle.ckr_jcl_faults.specs.declared.deck_text.JobText.{JobText}
 use Rattle.ckr_jcl_faults.specs.DeckText.{job_text, with_statement}
 use Rattle.ckr_jcl_decks.proofs.StatementOrder.{step_read, job_more}
-use Rattle.ckr_open_deck.specs.StatementHeads.{IsTextWithout, statement_left}
-use Rattle.ckr_open_deck.specs.LongDecks.{without_records}
+use Rattle.ckr_open_deck.specs.StatementHeads.{IsTextWithout, statement_left, without_records}
 
 -- the statements of the cards that are left: the next one, and those behind it
 pub next-statement : (number next : ℕ) (left rest behind : List (List ℕ)) (first : List ℕ) → left ≡ first ∷ drop 1 left → rest ≡ drop 1 left → next ≡ number + 1 + cards_behind (statement_left number first rest) → behind ≡ drop (cards_behind (statement_left number first rest)) rest → statements_of (stored_cards number left) ≡ statement_left number first rest ∷ statements_of (stored_cards next behind)

@@ -6,8 +6,7 @@ use Rattle.ckr_cards.specs.declared.statement.Statement.{Statement}
 use Rattle.ckr_jcl_faults.specs.declared.faults.MetFaults.{MetFaults}
 use Rattle.ckr_jcl_faults.specs.Faults.{faults_of, least_fault, fault_at, long_card}
 use Rattle.ckr_open_deck.specs.declared.statement.StatementHead.{StatementHead}
-use Rattle.ckr_open_deck.specs.StatementHeads.{IsHead}
-use Rattle.ckr_open_deck.specs.LongDecks.{without_records}
+use Rattle.ckr_open_deck.specs.StatementHeads.{IsHead, without_records}
 use Rattle.ckr_open_deck.proofs.LongCards.{long-some, long-none}
 use Rattle.ckr_open_deck.proofs.Statements.{no_long_record, long_record, long_own}
 

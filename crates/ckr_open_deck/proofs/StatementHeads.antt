@@ -6,7 +6,7 @@ use Rattle.ckr_cards.specs.declared.statement.Statement.{Statement}
 use Rattle.ckr_cards.specs.Card.{columns, stored_cards}
 use Rattle.ckr_cards.specs.Statement.{statement_of_cards, continuation, calls_first, statement_at, records_in, in_stream}
 use Rattle.ckr_cards.proofs.StoredCards.{drop_stored}
-use Rattle.ckr_open_deck.specs.LongDecks.{without_records}
+use Rattle.ckr_open_deck.specs.StatementHeads.{without_records}
 use Rattle.ckr_open_deck.proofs.Statements.{read_without, records_behind_statement, more_of_statement}
 
 -- what its own cards are: those with which its field goes on

@@ -13,7 +13,7 @@ use Rattle.ckr_cards.specs.Statement.{kind_of, is_named, first_field, continuati
 use Rattle.ckr_jcl_faults.specs.declared.faults.Fault.{Fault}
 use Rattle.ckr_jcl_faults.specs.declared.faults.MetFaults.{MetFaults}
 use Rattle.ckr_jcl_faults.specs.Faults.{long_card, long_line, byte_fault, name_fault, kind_fault, early_dd, continuation_fault, closing_fault, unknown_operand, left_out_keyword, wrong_value, clashing_operand, faults_of_operands, faults_of_field, faults_of, fault_at, least_fault}
-use Rattle.ckr_open_deck.specs.LongDecks.{without_records}
+use Rattle.ckr_open_deck.specs.StatementHeads.{without_records}
 use Rattle.ckr_cards.proofs.CutRuns.{continuation-none}
 
 -- ---- the faults of a statement

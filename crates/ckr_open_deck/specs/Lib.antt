@@ -1,4 +1,3 @@
 pub mod PackedLines
-pub mod LongDecks
 pub mod StatementHeads
 pub mod Decks

@@ -7,7 +7,9 @@ use Rattle.ckr_jcl_faults.specs.declared.deck_text.JobText.{JobText}
 use Rattle.ckr_jcl_faults.specs.DeckText.{job_text, with_statement}
 use Rattle.ckr_jcl_faults.specs.Faults.{long_card}
 use Rattle.ckr_open_deck.specs.declared.statement.StatementHead.{StatementHead}
-use Rattle.ckr_open_deck.specs.LongDecks.{without_records}
+
+abbrev pub without_records : Statement → Statement
+without_records s = record s { records = [] }
 
 -- the statement that begins with the card of a number, before the cards that are left
 abbrev pub statement_left : ℕ → List ℕ → List (List ℕ) → Statement

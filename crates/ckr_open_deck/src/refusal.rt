@@ -10,8 +10,7 @@ ghost use Rattle.ckr_jcl_faults.specs.Faults.{faults_of, first_fault, least_faul
 ghost use Rattle.ckr_jcl_decks.specs.Deck.{stored_deck};
 ghost use Rattle.ckr_jcl_decks.specs.DeckFaults.{deck_faults};
 ghost use Rattle.ckr_jcl_decks.specs.ReaderErrors.{TellsFault};
-ghost use Rattle.ckr_open_deck.specs.StatementHeads.{IsHead, IsTextWithout, statement_left};
-ghost use Rattle.ckr_open_deck.specs.LongDecks.{without_records};
+ghost use Rattle.ckr_open_deck.specs.StatementHeads.{IsHead, IsTextWithout, statement_left, without_records};
 
 use crate::cards_left::CardsLeft;
 use crate::open_deck::OpenDeck;

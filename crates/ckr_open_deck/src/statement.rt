@@ -4,7 +4,7 @@ ghost use Rattle.std.specs.Option.{option_or};
 ghost use Rattle.ckr_cards.specs.Card.{stored_card, stored_cards};
 ghost use Rattle.ckr_cards.specs.Statement.{cards_behind, continuation, records_in, statement_at};
 ghost use Rattle.ckr_jcl_faults.specs.Faults.{long_card};
-ghost use Rattle.ckr_open_deck.specs.LongDecks.{without_records};
+ghost use Rattle.ckr_open_deck.specs.StatementHeads.{without_records};
 
 use crate::cards_left::CardsLeft;
 use ckr_base::NoMemory;

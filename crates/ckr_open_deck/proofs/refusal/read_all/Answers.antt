@@ -7,8 +7,7 @@ use Rattle.ckr_jcl_faults.specs.DeckText.{with_statement}
 use Rattle.ckr_jcl_faults.specs.Faults.{first_fault, statement_fault}
 use Rattle.ckr_jcl_decks.specs.ReaderErrors.{TellsFault}
 use Rattle.ckr_jcl_decks.proofs.StatementOrder.{text_sound, text_fault, rest_fault, handed_on}
-use Rattle.ckr_open_deck.specs.StatementHeads.{IsTextWithout, statement_left}
-use Rattle.ckr_open_deck.specs.LongDecks.{without_records}
+use Rattle.ckr_open_deck.specs.StatementHeads.{IsTextWithout, statement_left, without_records}
 use Rattle.ckr_open_deck.proofs.HeadDecks.{next-statement, last-number, text-without}
 use Rattle.ckr_open_deck.proofs.refusal.read_all.Goals as goal
 

@@ -7,8 +7,7 @@ use Rattle.ckr_jcl_faults.specs.DeckText.{with_statement}
 use Rattle.ckr_jcl_faults.specs.Faults.{first_fault}
 use Rattle.ckr_jcl_decks.specs.ReaderErrors.{TellsFault}
 use Rattle.ckr_jcl_decks.proofs.StatementOrder.{none_left, fault_of_all, sound_more, handed_on}
-use Rattle.ckr_open_deck.specs.StatementHeads.{statement_left}
-use Rattle.ckr_open_deck.specs.LongDecks.{without_records}
+use Rattle.ckr_open_deck.specs.StatementHeads.{statement_left, without_records}
 use Rattle.ckr_open_deck.proofs.HeadDecks.{next-statement, last-number, job-next}
 use Rattle.ckr_open_deck.proofs.refusal.read_rest.Goals as goal
 

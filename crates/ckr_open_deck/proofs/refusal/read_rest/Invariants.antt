@@ -4,7 +4,7 @@ use Rattle.ckr_cards.specs.Card.{stored_cards}
 use Rattle.ckr_cards.specs.Statement.{statements_of}
 use Rattle.ckr_jcl_faults.specs.DeckText.{with_statement}
 use Rattle.ckr_jcl_faults.specs.Faults.{first_fault}
-use Rattle.ckr_open_deck.specs.LongDecks.{without_records}
+use Rattle.ckr_open_deck.specs.StatementHeads.{without_records}
 use Rattle.ckr_open_deck.proofs.refusal.read_rest.Given as goal
 
 abbrev pub invariant-loop-first : goal.invariant-loop-first
