@@ -1,9 +1,11 @@
 pub mod Bools
 pub mod Codes
 pub mod KnownBytes
+pub mod NameBytes
 pub mod Numbers
 pub mod Options
 pub mod Pieces
+pub mod Results
 pub mod Sequences
 pub mod Trims
 pub mod Blanks

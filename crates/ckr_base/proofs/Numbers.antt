@@ -18,6 +18,12 @@
 -- plus-one               n + 1 is suc n
 -- suc-minus              suc n - 1 is n
 -- suc-same               suc a ≡ suc b gives a ≡ b
+-- nat_lt-from            a < b gives nat_lt a b
+-- nat_lt-beyond          b ≤ a: nat_lt a b is false
+-- nat_le-false           where nat_le a b is false, b < a
+-- equal-apart            a ≢ b: a == b is false
+-- plus-minus             n + 1 - 1 is n
+-- zero-least             n ≤ 0 gives n ≡ 0
 use Rattle.std.proofs.Common.{ap, arith, false, nat_eq, nat_le, refl, suc, sym, true, ℕ, ◌+◌, ◌-◌, ◌<◌, ◌∙◌, ◌≡◌, ◌≢◌, ◌≤◌}
 use Rattle.std.proofs.lemmas.Bool.{false≢true}
 use Rattle.std.proofs.lemmas.Bool.Decides.{nat_tests}
@@ -88,3 +94,21 @@ equal-from a b e = ap (λ n. n == b) e ∙ equal-itself b
 
 pub zero-not-suc : (n : ℕ) → 0 ≡ suc n → ⊥
 zero-not-suc n e = omega (arith, e)
+
+pub nat_lt-from : (one other : ℕ) → one < other → nat_lt one other ≡ true
+nat_lt-from one other less = grind (arith, nat_tests)
+
+pub nat_lt-beyond : (one other : ℕ) → other ≤ one → nat_lt one other ≡ false
+nat_lt-beyond one other most = grind (arith, nat_tests)
+
+pub nat_le-false : (one other : ℕ) → nat_le one other ≡ false → other < one
+nat_le-false one other isnt = grind (arith, nat_tests)
+
+pub equal-apart : (one other : ℕ) → one ≢ other → (one == other) ≡ false
+equal-apart one other apart = bool-cases (one == other) (λ same. absurd (apart (equal-true one other same))) (λ e. e)
+
+pub plus-minus : (n : ℕ) → n + 1 - 1 ≡ n
+plus-minus n = omega arith
+
+pub zero-least : (n : ℕ) → n ≤ 0 → n ≡ 0
+zero-least n none = omega arith

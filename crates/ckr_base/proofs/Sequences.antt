@@ -37,14 +37,30 @@
 -- filter_map-more        a front that is one longer, mapped
 -- replicate-room         filled up, a list has the length
 -- length-fitted          the length of what is cut or filled up
-use Rattle.std.proofs.Common.{Bool, List, None, Option, Some, [], ap, append_assoc, arith, cond, drop, drop-cons, false, filter, get_or, length, nat_lt, refl, replicate, slice_get, slice_index_or, slice_set, subst, suc, sym, take, true, true≢false, zero, ℕ, ◌&&◌, ◌++◌, ◌+◌, ◌<◌, ◌||◌, ◌∙◌, ◌∷◌, ◌≡◌, ◌≢◌, ◌≤◌}
+-- find-filter            what is found is found among those that are kept, if it is kept
+-- find-filter-none       where nothing is found, nothing is among those that are kept
+-- find-append            one more that passes, behind some that don't
+-- all-same               tests that agree, of all
+-- any-second             where some pass both tests, some pass the second
+-- each-filter            of each that is kept
+-- each-passes            of each that is kept, and it passes the test
+-- each-both              two facts of each
+-- each-by_place          of each, where it holds at each place
+-- last-holds             what holds of each holds of the last
+-- last-append            the last is what is put behind
+-- get-there              there is an item at each place inside
+-- get-some               the same, as a test
+-- drop-get               what is behind a place begins with what stands there
+-- take-short             a front is no longer than the list
+-- head-same, tail-same   equal lists begin alike and go on alike
+use Rattle.std.proofs.Common.{Bool, IsSome, List, None, Option, Some, [], ap, append_assoc, arith, cond, drop, drop-cons, false, filter, get_or, length, nat_lt, refl, replicate, slice_get, slice_index_or, slice_set, subst, suc, sym, take, true, true≢false, zero, ℕ, ◌&&◌, ◌++◌, ◌+◌, ◌<◌, ◌||◌, ◌∙◌, ◌∷◌, ◌≡◌, ◌≢◌, ◌≤◌}
 use Rattle.std.proofs.Math.Seq.{drop-append_seam, take-append_seam}
-use Rattle.std.proofs.lemmas.Bool.{and_from, or_left, or_right}
+use Rattle.std.proofs.lemmas.Bool.{and_from, false≢true, or_left, or_right}
 use Rattle.std.proofs.lemmas.Bool.Decides.{nat_tests}
 use Rattle.std.proofs.lemmas.List.{length-append, length-replicate, length-take-le, take_more}
 use Rattle.std.proofs.lemmas.List.Elements.{filter_map-append}
 use Rattle.std.proofs.lemmas.Option.{none-some, same_Some, slice_get_read}
-use Rattle.std.specs.List.{AllByRecursion, cons_option, filter_map, find, list_all, list_any, position, position_or_len}
+use Rattle.std.specs.List.{AllByRecursion, cons_option, filter_map, find, last_or, list_all, list_any, position, position_or_len}
 use Rattle.std.specs.Option.{option_map_or, option_to_list}
 use Rattle.ckr_base.proofs.Bools.{and-first, and-second, bool-cases}
 use Rattle.ckr_base.proofs.Numbers.{suc-is-plus}
@@ -277,3 +293,102 @@ drop-seam first piece second other third e f =
     let both : third ≡ first ++ (piece ++ other) = f ∙ ap (λ w. w ++ other) e ∙ append_assoc first piece other in
     ap (λ w. w ++ drop (length second) third) here ∙ ap (λ w. piece ++ w) next
     ∙ sym (ap (drop (length first)) both ∙ drop-append_seam first (piece ++ other))
+
+pub find-filter : {X : Type 0} (test keep : X → Bool) (xs : List X) (x : X) → find test xs ≡ Some x → keep x ≡ true → find test (filter keep xs) ≡ Some x
+find-filter test keep [] x at stays = at
+find-filter {X = X} test keep (first ∷ rest) x at stays = by (test first) (keep first) refl refl at (find-filter test keep rest x)
+  where
+    by : (b k : Bool) → test first ≡ b → keep first ≡ k → cond b (Some first) (find test rest) ≡ Some x → (find test rest ≡ Some x → keep x ≡ true → find test (filter keep rest) ≡ Some x) → find test (cond k (first ∷ filter keep rest) (filter keep rest)) ≡ Some x
+    by true true e k at later = ap (λ (b : Bool). cond b (Some first) (find test (filter keep rest))) e ∙ at
+    by true false e k at later = absurd (false≢true (sym k ∙ ap keep (same_Some first x at) ∙ stays))
+    by false true e k at later = ap (λ (b : Bool). cond b (Some first) (find test (filter keep rest))) e ∙ later at stays
+    by false false e k at later = later at stays
+
+pub find-filter-none : {X : Type 0} (test keep : X → Bool) (xs : List X) → find test xs ≡ None → find test (filter keep xs) ≡ None
+find-filter-none test keep [] none = refl
+find-filter-none test keep (first ∷ rest) none = by (test first) (keep first) refl none (find-filter-none test keep rest)
+  where
+    by : (b k : Bool) → test first ≡ b → cond b (Some first) (find test rest) ≡ None → (find test rest ≡ None → find test (filter keep rest) ≡ None) → find test (cond k (first ∷ filter keep rest) (filter keep rest)) ≡ None
+    by true k is none later = absurd (some-not-none first none)
+    by false true is none later = ap (λ (b : Bool). cond b (Some first) (find test (filter keep rest))) is ∙ later none
+    by false false is none later = later none
+
+pub find-append : {X : Type 0} (test : X → Bool) (xs : List X) (x : X) → find test xs ≡ None → test x ≡ true → find test (xs ++ x ∷ []) ≡ Some x
+find-append test [] x none passes = ap (λ (b : Bool). cond b (Some x) None) passes
+find-append test (first ∷ rest) x none passes = by (test first) none (λ none. find-append test rest x none passes)
+  where
+    by : (b : Bool) → cond b (Some first) (find test rest) ≡ None → (find test rest ≡ None → find test (rest ++ x ∷ []) ≡ Some x) → cond b (Some first) (find test (rest ++ x ∷ [])) ≡ Some x
+    by true none later = absurd (some-not-none first none)
+    by false none later = later none
+
+pub all-same : {X : Type 0} (one other : X → Bool) → ((x : X) → one x ≡ other x) → (xs : List X) → list_all one xs ≡ list_all other xs
+all-same one other same [] = refl
+all-same one other same (x ∷ xs) = λ i. same x i && all-same one other same xs i
+
+pub any-second : {X : Type 0} (kept test : X → Bool) (xs : List X) → list_any (λ x. kept x && test x) xs ≡ true → list_any test xs ≡ true
+any-second kept test [] some = some
+any-second kept test (first ∷ rest) some =
+    by (kept first) (test first) some (any-second kept test rest)
+  where
+    by : (a b : Bool) → ((a && b) || list_any (λ x. kept x && test x) rest) ≡ true → (list_any (λ x. kept x && test x) rest ≡ true → list_any test rest ≡ true) → (b || list_any test rest) ≡ true
+    by a true some more = refl
+    by true false some more = more some
+    by false false some more = more some
+
+pub each-filter : {X : Type 0} (P : X → Type 0) (keep : X → Bool) (xs : List X) → AllByRecursion P xs → AllByRecursion P (filter keep xs)
+each-filter P keep [] each = tt
+each-filter P keep (first ∷ rest) each =
+    elim (keep first) as (λ b. AllByRecursion P (cond b (first ∷ filter keep rest) (filter keep rest))) [
+      | true ↦ (each.0, each-filter P keep rest each.1)
+      | false ↦ each-filter P keep rest each.1
+    ]
+
+pub each-passes : {X : Type 0} (P : X → Type 0) (test : X → Bool) (xs : List X) → AllByRecursion P xs → AllByRecursion (λ x. P x × (test x ≡ true)) (filter test xs)
+each-passes P test [] each = tt
+each-passes P test (x ∷ rest) each = by (test x) refl (each-passes P test rest each.1)
+  where
+    by : (b : Bool) → test x ≡ b → AllByRecursion (λ x. P x × (test x ≡ true)) (filter test rest) → AllByRecursion (λ x. P x × (test x ≡ true)) (cond b (x ∷ filter test rest) (filter test rest))
+    by true does later = ((each.0, does), later)
+    by false does later = later
+
+pub each-both : {X : Type 0} (P Q R : X → Type 0) (xs : List X) → ((x : X) → P x → Q x → R x) → AllByRecursion P xs → AllByRecursion Q xs → AllByRecursion R xs
+each-both P Q R [] both ps qs = tt
+each-both P Q R (x ∷ xs) both ps qs = (both x ps.0 qs.0, each-both P Q R xs both ps.1 qs.1)
+
+pub each-by_place : {X : Type 0} (P : X → Type 0) (xs : List X) → ((place : ℕ) (x : X) → slice_get xs place ≡ Some x → P x) → AllByRecursion P xs
+each-by_place P [] each = tt
+each-by_place P (first ∷ xs) each = (each 0 first refl, each-by_place P xs (λ place x at. each (suc place) x at))
+
+pub last-holds : {X : Type 0} (P : X → Type 0) (before : Option X) (xs : List X) (x : X) → ((y : X) → before ≡ Some y → P y) → AllByRecursion P xs → last_or before xs ≡ Some x → P x
+last-holds P before [] x first each last = first x last
+last-holds P before (y ∷ rest) x first each last = last-holds P (Some y) rest x (λ z same. subst P (same_Some y z same) each.0) each.1 last
+
+pub last-append : {A : Type 0} (before : Option A) (items : List A) (item : A) → last_or before (items ++ item ∷ []) ≡ Some item
+last-append before [] item = refl
+last-append before (first ∷ items) item = last-append (Some first) items item
+
+pub get-there : {A : Type 0} (items : List A) (place : ℕ) → place < length items → (item : A) × (slice_get items place ≡ Some item)
+get-there [] place inside = absurd (omega (arith, inside))
+get-there (item ∷ items) zero inside = (item, refl)
+get-there (item ∷ items) (suc place) inside = get-there items place (omega (arith, inside))
+
+pub get-some : {A : Type 0} (items : List A) (place : ℕ) → place < length items → IsSome (slice_get items place)
+get-some [] place inside = absurd (omega (arith, inside))
+get-some (item ∷ items) zero inside = refl
+get-some (item ∷ items) (suc place) inside = get-some items place (omega (arith, inside))
+
+pub drop-get : {A : Type 0} (items : List A) (place : ℕ) (item : A) → slice_get items place ≡ Some item → drop place items ≡ item ∷ drop (suc place) items
+drop-get [] place item at = absurd (some-not-none item (sym at))
+drop-get (first ∷ items) zero item at = ap (λ one. one ∷ items) (same_Some first item at)
+drop-get (first ∷ items) (suc place) item at = drop-get items place item at
+
+pub take-short : {A : Type 0} (count : ℕ) (items : List A) → length (take count items) ≤ length items
+take-short zero items = omega arith
+take-short (suc count) [] = omega arith
+take-short (suc count) (first ∷ rest) = let e : length (take count rest) ≤ length rest = take-short count rest in omega (arith, e)
+
+pub head-same : {A : Type 0} (one other : A) (xs ys : List A) → one ∷ xs ≡ other ∷ ys → one ≡ other
+head-same one other xs ys is = cc
+
+pub tail-same : {A : Type 0} (one other : A) (xs ys : List A) → one ∷ xs ≡ other ∷ ys → xs ≡ ys
+tail-same one other xs ys is = cc

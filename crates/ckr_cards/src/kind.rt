@@ -181,7 +181,8 @@ fn is_blank_first(text: &[u8]) -> bool
     }
 }
 
-/// Whether a card, from its columns, is a continuation card.
+/// Whether a card, from its columns, is a continuation card: slashes, then a blank, and no null
+/// statement (IBM GC28-6704).
 #[tactic(auto, unfolding(crate::specs::Statement::is_continuation))]
 pub fn is_continuation(text: &[u8]) -> bool
     ensures { result ≡ is_continuation text.now }

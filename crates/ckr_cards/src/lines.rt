@@ -22,7 +22,7 @@ pub enum InStream {
     UpToDelimiter,
 }
 
-/// Whether a card, from its columns, is one of these records.
+/// Whether a card, from its columns, is a record where records end so (IBM GC28-6704).
 #[tactic(auto, unfolding(crate::specs::Statement::is_record))]
 pub fn is_record(records: InStream, columns: &[u8]) -> bool
     ensures { result ≡ is_record records columns.now }
@@ -128,14 +128,15 @@ pub(crate) fn is_ignored(line: &[u8], columns: &[u8]) -> bool
     are_blanks(line) || is_comment(columns) || is_null(columns) || is_delimiter(columns)
 }
 
-/// Whether the field of a first card, from its columns, calls for a continuation card.
+/// Whether the field of a first card, from its columns, calls for a continuation card
+/// (IBM GC28-6704).
 pub fn calls_first(text: &[u8]) -> bool
     ensures { result ≡ calls_first text.now }
 {
     is_named(kind_of(text)) && first_goes_on(text)
 }
 
-/// Whether a continuation card, from its columns, calls for another one.
+/// Whether a continuation card, from its columns, calls for another one (IBM GC28-6704).
 #[tactic(auto, unfolding(crate::specs::Statement::calls_again))]
 pub fn calls_again(text: &[u8]) -> bool
     ensures { result ≡ calls_again text.now }

@@ -179,7 +179,7 @@ fn statement_at(
 }
 
 /// The statement of a first card and of the cards with which its field goes on, without records
-/// (IBM GC28-6704).
+/// (IBM GC28-6704). `NoMemory` where there is none.
 #[tactic(auto, unfolding(crate::specs::Statement::statement_of_cards))]
 pub fn statement_of_cards(alloc: Global, first: Card, more: CardList) -> Result<Statement, NoMemory>
     ensures { IfOk result (λ s. s ≡ statement_of_cards first more) }

@@ -1,13 +1,13 @@
 -- What the deferred rules say of a queued run follows on any disk: where none of them holds, each test of its selection does.
-use Rattle.std.proofs.Common.{◌≡◌, ◌==◌, ◌≤◌, ◌<◌, ℕ, suc, pred, Bool, true, false, ◌&&◌, cond, List, [], ◌∷◌, filter, slice_get, refl, ap, sym, ◌∙◌, subst, Option, Some, None, arith}
-use Rattle.std.specs.List.{AllByRecursion, last_or}
+use Rattle.std.proofs.Common.{◌≡◌, ◌==◌, ◌≤◌, ◌<◌, ℕ, suc, pred, Bool, true, false, ◌&&◌, [], filter, slice_get, refl, ap, sym, ◌∙◌, subst, Option, Some, None, arith}
+use Rattle.std.specs.List.{AllByRecursion}
 use Rattle.std.specs.Option.{is_none, is_some, option_eq, option_map_or}
 use Rattle.std.proofs.lemmas.Bool.{and_from, false≢true}
 use Rattle.ckr_points_invariant.specs.EarlierRuns.{wanted_by}
 use Rattle.ckr_base.proofs.Bools.{and-first, and-second}
 use Rattle.ckr_base.proofs.Numbers.{equal-itself}
 use Rattle.ckr_base.proofs.Options.{is_some-true, some-not-none, some-one}
-use Rattle.ckr_base.proofs.Sequences.{each-implies, find-passes}
+use Rattle.ckr_base.proofs.Sequences.{each-by_place, each-implies, each-passes, find-passes, last-holds}
 use Rattle.ckr_events.specs.declared.event.Event.TheVariants.{Denied as DeniedEvent, Selected as SelectedEvent}
 use Rattle.ckr_jcl.specs.declared.deck.Restart.{Restart}
 use Rattle.ckr_jcl.specs.declared.deck.Step.{Step as StepOfDeck}
@@ -37,7 +37,6 @@ use Rattle.ckr_desk_turn.specs.Select.{may_select, next_run, run_on_initiator}
 use Rattle.ckr_desk_turn.proofs.Deferred.EarlierRuns.{IsOwnStep, number-at, same-number}
 use Rattle.ckr_desk_turn.proofs.Deferred.Permissions.{IsEntryPermitted, IsStartPermitted, IsWanted, counted, its-step, kept-id, numbered-above, permitted-continues}
 use Rattle.ckr_desk_turn.proofs.Deferred.Rules.{IsPassed, passed-so}
-use Rattle.ckr_desk_turn.proofs.OtherRuns.{every-by}
 use Rattle.ckr_desk_turn.proofs.NextEvents.BetweenSteps.{free-there, next_waits}
 use Rattle.ckr_volumes.specs.declared.layout.Layout.{Layout}
 use Rattle.ckr_desk_memory.proofs.FoundRuns.{found-run}
@@ -50,26 +49,9 @@ use Rattle.ckr_desk_memory.specs.OwnSteps.{PlanFollows}
 
 -- ---- lists
 
--- what is kept passes, and is one of the items
-kept-passes : {X : Type 0} (P : X → Type 0) (test : X → Bool) (items : List X) → AllByRecursion P items → AllByRecursion (λ x. P x × (test x ≡ true)) (filter test items)
-kept-passes P test [] each = tt
-kept-passes P test (x ∷ rest) each = by (test x) refl (kept-passes P test rest each.1)
-  where
-    by : (b : Bool) → test x ≡ b → AllByRecursion (λ x. P x × (test x ≡ true)) (filter test rest) → AllByRecursion (λ x. P x × (test x ≡ true)) (cond b (x ∷ filter test rest) (filter test rest))
-    by true does later = ((each.0, does), later)
-    by false does later = later
-
--- the last one is one of the items
-last-holds : {X : Type 0} (P : X → Type 0) (before : Option X) (items : List X) (x : X) → ((y : X) → before ≡ Some y → P y) → AllByRecursion P items → last_or before items ≡ Some x → P x
-last-holds P before [] x first each last = first x last
-last-holds P before (y ∷ rest) x first each last = last-holds P (Some y) rest x (λ z same. subst P (is z same) each.0) each.1 last
-  where
-    is : (z : _) → Some y ≡ Some z → y ≡ z
-    is z e = cc
-
 -- each run of the tables stands at its number
 each-at : (tables : TablesModel) → AreNumbered 1 tables.runs → AllByRecursion (λ (row : RunRow). run_of tables row.number ≡ Some row) tables.runs
-each-at tables numbered = every-by (λ (row : RunRow). run_of tables row.number ≡ Some row) tables.runs (λ place row at. ap (run_of tables) (row-number tables (suc place) row numbered at) ∙ at)
+each-at tables numbered = each-by_place (λ (row : RunRow). run_of tables row.number ≡ Some row) tables.runs (λ place row at. ap (run_of tables) (row-number tables (suc place) row numbered at) ∙ at)
 
 module _ (layout : Layout) (tables : TablesModel) (rows : AllByRecursion IsAcceptedRow tables.runs) (numbered : AreNumbered 1 tables.runs) (placed : AllByRecursion IsPlacedRow tables.runs) (are : AreHolders tables) (row : RunRow) where
   -- what is judged are tables alone
@@ -99,7 +81,7 @@ module _ (layout : Layout) (tables : TablesModel) (rows : AllByRecursion IsAccep
   latest-at name other is =
       let test : RunRow → Bool = λ row. was_selected row && same_name row.deck.name name in
       let At : RunRow → Type 0 = λ row. run_of tables row.number ≡ Some row in
-      let its = last-holds (λ row. At row × (test row ≡ true)) None (filter test tables.runs) other (λ row none. absurd (some-not-none row (sym none))) (kept-passes At test tables.runs (each-at tables numbered)) is in
+      let its = last-holds (λ row. At row × (test row ≡ true)) None (filter test tables.runs) other (λ row none. absurd (some-not-none row (sym none))) (each-passes At test tables.runs (each-at tables numbered)) is in
       (its.0, and-first (was_selected other) _ its.1, and-second (was_selected other) _ its.1)
 
   start-permitted : (restart : Restart) → deferred_verdict layout tables row (wanted_of row tables restart) ≡ AtStep → IsStartPermitted office row restart

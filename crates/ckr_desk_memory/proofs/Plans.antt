@@ -1,6 +1,6 @@
 -- A turn's plan, case by case.
 use Rattle.std.specs.Prelude.{if◌then◌else◌}
-use Rattle.std.proofs.Common.{IfErr, ◌≡◌, ◌==◌, ◌≤◌, ◌<◌, ℕ, zero, suc, Bool, true, false, cond, nat_eq, refl, ap, sym, ◌∙◌, subst, IsSome, List, [], ◌∷◌, find, length, pred, slice_get, Option, None, Some, Result, Ok, Err, arith}
+use Rattle.std.proofs.Common.{IfErr, ◌≡◌, ◌==◌, ◌≤◌, ℕ, zero, suc, Bool, true, false, cond, nat_eq, refl, ap, sym, ◌∙◌, subst, IsSome, List, [], ◌∷◌, find, length, pred, slice_get, Option, None, Some, Result, Ok, Err, arith}
 use Rattle.std.specs.List.{AllByRecursion}
 use Rattle.std.specs.Option.{is_none, is_some, option_eq, option_map, option_map_or}
 use Rattle.std.proofs.lemmas.Bool.{false≢true}
@@ -16,7 +16,7 @@ use Rattle.ckr_base.specs.declared.programs.NextDue.TheVariants.{Finished}
 use Rattle.ckr_base.proofs.Bools.{if-then}
 use Rattle.ckr_base.proofs.Numbers.{equal-true}
 use Rattle.ckr_base.proofs.Options.{is_some-true, some-not-none}
-use Rattle.ckr_base.proofs.Sequences.{find-passes}
+use Rattle.ckr_base.proofs.Sequences.{find-passes, get-some}
 use Rattle.ckr_events.specs.declared.event.Event.{Event}
 use Rattle.ckr_events.specs.declared.event.Event.TheVariants.{Started as StartedEvent, Ended as EndedEvent}
 use Rattle.ckr_events.specs.declared.event.Ending.TheVariants.{Completed as CompletedEnding, Allocation as AllocationEnding}
@@ -249,14 +249,9 @@ module _ (layout : Layout) (jobs : TurnJobs) (row : RunRow) (number : ℕ) where
       → between_plan layout jobs row number ≡ allocation_ended row owned refusal.dd refusal.cause
   between-refused owned refusal some is = ap if_step some ∙ ap (if_allocated owned) (items-refused (allocation_in layout row owned number jobs.tables) refusal is)
 
-there_at : {A : Type 0} (items : List A) (place : ℕ) → place < length items → IsSome (slice_get items place)
-there_at [] place inside = absurd (omega (arith, inside))
-there_at (item ∷ items) zero inside = refl
-there_at (item ∷ items) (suc place) inside = there_at items place (omega (arith, inside))
-
 pub numbered-there : {A : Type 0} (items : List A) (number : ℕ) → 1 ≤ number → number ≤ length items → IsSome (slice_get items (pred number))
 numbered-there items zero first last = absurd (omega (arith, first))
-numbered-there items (suc place) first last = there_at items place (omega (arith, last))
+numbered-there items (suc place) first last = get-some items place (omega (arith, last))
 
 refusal_is : (result : Result Allocation Refusal) (refusal : Refusal) → IsAllocation result (Err refusal) → result ≡ Err refusal
 refusal_is (Ok done) refusal is = absurd is

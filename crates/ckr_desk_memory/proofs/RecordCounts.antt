@@ -1,8 +1,6 @@
 -- The records in an accepted deck are few.
-use Rattle.std.proofs.Common.{◌≡◌, ◌≤◌, ℕ, zero, suc, Bool, true, false, cond, List, [], ◌∷◌, map, length, drop, Option, Some, None, Ok, refl, sym, subst, nat_le, nat_lt, arith, length-drop}
-use Rattle.std.proofs.lemmas.Bool.Decides.{nat_tests}
+use Rattle.std.proofs.Common.{◌≡◌, ◌≤◌, ℕ, zero, suc, Bool, true, false, cond, List, [], ◌∷◌, map, length, drop, Option, Some, None, Ok, sym, subst, arith, length-drop}
 use Rattle.std.proofs.lemmas.List.{length-map}
-use Rattle.std.proofs.lemmas.Option.{none-some}
 use Rattle.std.specs.List.{AllByRecursion, fold}
 use Rattle.ckr_base.proofs.Sequences.{each-append, each-implies}
 use Rattle.ckr_cards.specs.declared.card.Card.{Card}
@@ -22,14 +20,12 @@ use Rattle.ckr_jcl_decks.specs.Parts.DsnText.TheVariants.{Permanent, Passing}
 use Rattle.ckr_jcl_decks.specs.Parts.DdText.{DdText}
 use Rattle.ckr_jcl_decks.specs.Parts.StepText.{StepText}
 use Rattle.ckr_jcl_decks.specs.Parts.JobText.{JobText}
-use Rattle.ckr_jcl_decks.specs.Least.{HasNone, IsDeckJob}
-use Rattle.ckr_jcl.specs.Text.{if_holds}
-use Rattle.ckr_jcl_decks.specs.DeckFaults.{card_beyond, dd_beyond, deck_faults, faults_of_names, faults_of_uses, lesser, limit_fault, no_step, step_beyond}
+use Rattle.ckr_jcl_decks.specs.Least.{IsDeckJob}
 use Rattle.ckr_jcl_decks.specs.Parts.DeckText.{closed, current_step, dd_in, dd_text, deck_text, job_text, role_in, step_text, with_dd, with_statement, with_step}
 use Rattle.ckr_jcl_decks.specs.Deck.{bytes_of, dd_of, job_of, named_origin, origin_of, step_with, stored_deck}
+use Rattle.ckr_jcl_decks.proofs.CardLimit.{few-cards}
 use Rattle.ckr_jcl_decks.proofs.Refusals.{job_law}
 use Rattle.ckr_desk_turn.proofs.DeckTests.{OfStep, steps_hold}
-use Rattle.ckr_desk_turn.proofs.Texts.{own_none, rows_none}
 
 -- ---- statements
 
@@ -172,51 +168,6 @@ job_few most job few =
     steps_hold (IsStepFew most) job.steps
     (each-implies (λ (step : StepText). AllByRecursion (λ (dd : DdText). length dd.records ≤ most) step.dds) (OfStep (IsStepFew most)) job.steps (step_few most) few)
 
--- ---- the limit of cards
-
-lesser_none : (a b : Option ℕ) → lesser a b ≡ None → (a ≡ None) × (b ≡ None)
-lesser_none None b none = (refl, none)
-lesser_none (Some a) None none = absurd (none-some a (sym none))
-lesser_none (Some a) (Some b) none = absurd (by_test (nat_le a b) none)
-  where
-    by_test : (less : Bool) → cond less (Some a) (Some b) ≡ None → ⊥
-    by_test true none = none-some a (sym none)
-    by_test false none = none-some b (sym none)
-
-few_beyond : (cards : ℕ) → card_beyond cards ≡ None → cards ≤ 100000
-few_beyond cards none = by_test (nat_lt 100000 cards) refl none
-  where
-    by_test : (more : Bool) → nat_lt 100000 cards ≡ more → if_holds {X = ℕ} more 100001 ≡ None → cards ≤ 100000
-    by_test true is none = absurd (none-some 100001 (sym none))
-    by_test false is none = grind (arith, nat_tests, is)
-
-few_by_limit : (cards : ℕ) (job : JobText) → limit_fault cards job ≡ None → cards ≤ 100000
-unfolding limit_fault
-few_by_limit cards job none =
-    let steps = lesser_none (step_beyond job.steps) (lesser (dd_beyond job.steps) (lesser (card_beyond cards) (no_step cards job.steps))) none in
-    let dds = lesser_none (dd_beyond job.steps) (lesser (card_beyond cards) (no_step cards job.steps)) steps.1 in
-    few_beyond cards (lesser_none (card_beyond cards) (no_step cards job.steps) dds.1).0
-
-limit_none : (cards : ℕ) (job : JobText) → HasNone (deck_faults cards job) → limit_fault cards job ≡ None
-unfolding deck_faults faults_of_names faults_of_uses
-limit_none cards job none =
-    let from_13 = rows_none _ _ none in
-    let from_14 = rows_none _ _ from_13 in
-    let from_15 = rows_none _ _ from_14 in
-    let from_16 = rows_none _ _ from_15 in
-    let from_17 = rows_none _ _ from_16 in
-    let from_18 = rows_none _ _ from_17 in
-    let from_19 = rows_none _ _ from_18 in
-    let from_20 = rows_none _ _ from_19 in
-    let from_21 = rows_none _ _ from_20 in
-    let from_22 = rows_none _ _ from_21 in
-    let from_23 = rows_none _ _ from_22 in
-    own_none 23 (limit_fault cards job) _ from_23
-
-few_cards : (cards : ℕ) (statements : List Statement) (job : Job) → IsDeckJob cards statements job → cards ≤ 100000
-few_cards cards [] job is = absurd is
-few_cards cards (first ∷ rest) job is = few_by_limit cards (deck_text first rest) (limit_none cards (deck_text first rest) is.0)
-
 -- ---- an accepted deck
 
 deck_few : (most cards : ℕ) (statements : List Statement) (job : Job) → AllByRecursion (IsFew most) statements → IsDeckJob cards statements job → AllByRecursion (IsStepFew most) job.steps
@@ -233,4 +184,4 @@ unfolding stored_deck
 steps-few bytes job accepted =
     let is = (job_law (cards_in_bytes bytes) job accepted).1 in
     deck_few 100000 (length (cards_in_bytes bytes)) (statements_of (cards_in_bytes bytes)) job
-    (all_few 100000 (cards_in_bytes bytes) (few_cards (length (cards_in_bytes bytes)) (statements_of (cards_in_bytes bytes)) job is)) is
+    (all_few 100000 (cards_in_bytes bytes) (few-cards (length (cards_in_bytes bytes)) (statements_of (cards_in_bytes bytes)) job is)) is

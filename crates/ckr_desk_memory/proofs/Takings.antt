@@ -1,10 +1,9 @@
 -- What a turn comes to by what has become of the volumes that its step wants.
-use Rattle.std.proofs.Common.{◌≡◌, ◌≤◌, ◌==◌, ◌&&◌, ℕ, Bool, true, false, refl, ap, sym, ◌∙◌, List, length, nat_le, Option, None, Some, arith}
-use Rattle.std.proofs.lemmas.Bool.Decides.{nat_tests}
+use Rattle.std.proofs.Common.{◌≡◌, ◌==◌, ◌&&◌, ℕ, Bool, true, false, refl, ap, sym, ◌∙◌, List, length, nat_le, Option, None, Some, arith}
 use Rattle.std.proofs.lemmas.Option.{same_Some}
 use Rattle.std.specs.Option.{option_map_or}
 use Rattle.ckr_base.proofs.Bools.{and-first}
-use Rattle.ckr_base.proofs.Numbers.{equal-true}
+use Rattle.ckr_base.proofs.Numbers.{equal-true, nat_le-from}
 use Rattle.ckr_base.proofs.Options.{some-not-none, some-one}
 use Rattle.ckr_desk_turn.specs.declared.plan.Plan.{Plan}
 use Rattle.ckr_desk_turn.specs.declared.plan.Plan.TheVariants.{Rest, Tell, Work}
@@ -121,9 +120,6 @@ is-on layout jobs (Work run) job made row is at follow due own =
     ap (is_in_state On) (sym row_is) ∙ ap (λ state. state_number state == state_number On) its.holds.state
 is-on layout jobs _ job made row is at follow due own = absurd (some-not-none (job, made) (sym is))
 
-at_most : (a b : ℕ) → a ≤ b → nat_le a b ≡ true
-at_most a b most = grind (arith, nat_tests)
-
 pub ended-follows : (layout : Layout) (jobs : JobsView) (plan : Plan) (step : Wanting) (cause : Cause) (sought : Option ℕ) (dd : ℕ) → AreRunRows jobs.tables.desk → wanting jobs.tables.desk plan ≡ Some step → dd_on step sought ≡ Some dd
     → PlanFollows layout jobs.tables.desk plan → HasDue jobs plan → HoldTheirOwn jobs → PlanFollows layout jobs.tables.desk (allocation_ended step.row step.owned dd cause)
 ended-follows layout jobs plan step cause sought dd rows found there follow due own =
@@ -137,5 +133,5 @@ ended-follows layout jobs plan step cause sought dd rows found there follow due 
     ∙ ap (λ o. option_map_or test o false) its.at
     ∙ ap (λ b. b && option_map_or (λ (owned : OwnedStep). nat_le 1 dd && nat_le dd (length owned.step.dds)) (own_step step.row) false) on
     ∙ ap (λ o. option_map_or (λ (owned : OwnedStep). nat_le 1 dd && nat_le dd (length owned.step.dds)) o false) its.there
-    ∙ ap (λ b. b && nat_le dd (length step.owned.step.dds)) (at_most 1 dd inside.0)
-    ∙ at_most dd (length step.owned.step.dds) (omega (arith, inside.1))
+    ∙ ap (λ b. b && nat_le dd (length step.owned.step.dds)) (nat_le-from 1 dd inside.0)
+    ∙ nat_le-from dd (length step.owned.step.dds) (omega (arith, inside.1))

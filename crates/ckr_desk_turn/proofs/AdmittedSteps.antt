@@ -6,8 +6,8 @@ use Rattle.std.proofs.lemmas.Option.{slice_get-map}
 use Rattle.std.proofs.lemmas.Slice.Eq.{bytes_eq-Decides}
 use Rattle.ckr_base.proofs.Bools.{and-first}
 use Rattle.ckr_base.proofs.Numbers.{number-cases}
-use Rattle.ckr_base.proofs.Options.{some-not-none, some-one}
-use Rattle.ckr_base.proofs.Sequences.{each-get, get-inside}
+use Rattle.ckr_base.proofs.Options.{option_map-some, some-not-none, some-one}
+use Rattle.ckr_base.proofs.Sequences.{each-by_place, each-get, get-inside}
 use Rattle.ckr_jcl.specs.declared.deck.Job.{Job}
 use Rattle.ckr_jcl.specs.declared.deck.Step.{Step}
 use Rattle.ckr_jcl_decks.specs.Deck.{stored_deck}
@@ -21,9 +21,7 @@ use Rattle.ckr_points.specs.Restart.{spliced}
 use Rattle.ckr_points.specs.Rows.{RunRow}
 use Rattle.ckr_points.specs.Statements.{same_bytes, same_statements}
 use Rattle.ckr_points.specs.Tables.{queued_run}
-use Rattle.ckr_points_invariant.proofs.WrittenEntries.Sets.{changed-was}
 use Rattle.ckr_desk_turn.specs.Invariant.{HasStepName, IsAdmitted, IsAdmittedStep}
-use Rattle.ckr_desk_turn.proofs.OtherRuns.{every-by}
 use Rattle.ckr_desk_turn.proofs.Start.Decks.{IsOfDeck, check-parts, fits-allocation, never-bypassed, of-deck}
 
 -- the same bytes are equal
@@ -48,7 +46,7 @@ own-step cards run deck accepted number owned found = record {
 own-named : (run : ℕ) (deck : Job) (number : ℕ) (owned : OwnedStep) → step_at (plain_job run deck) number ≡ Some owned → HasStepName deck number owned.step.name
 own-named run deck zero owned found = absurd (some-not-none owned (sym found))
 own-named run deck (suc before) owned found =
-    let its = changed-was (owned_by run deck) (slice_get deck.steps before) owned (sym (slice_get-map (owned_by run deck) deck.steps before) ∙ found) in
+    let its = option_map-some (owned_by run deck) (slice_get deck.steps before) owned (sym (slice_get-map (owned_by run deck) deck.steps before) ∙ found) in
     (its.0, its.1, ap (λ (one : OwnedStep). one.step.name) its.2)
 
 -- a run that is submitted
@@ -168,4 +166,4 @@ job-few row was =
     few-places row.job.steps 64 (λ place owned at. let early = admitted-early (suc place) owned (was.steps (suc place) owned at) in omega (arith, early))
 
 pub steps-few : (row : RunRow) → IsAdmitted row → AllByRecursion (λ (owned : OwnedStep). length owned.step.dds ≤ 16) row.job.steps
-steps-few row was = every-by (λ (owned : OwnedStep). length owned.step.dds ≤ 16) row.job.steps (λ place owned at. admitted-few (suc place) owned (was.steps (suc place) owned at))
+steps-few row was = each-by_place (λ (owned : OwnedStep). length owned.step.dds ≤ 16) row.job.steps (λ place owned at. admitted-few (suc place) owned (was.steps (suc place) owned at))

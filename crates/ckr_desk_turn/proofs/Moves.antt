@@ -1,12 +1,12 @@
 -- The desk where a running step has come further, or more of it is served.
-use Rattle.std.proofs.Common.{◌≡◌, ℕ, Bool, true, false, cond, not, ◌||◌, List, [], ◌∷◌, filter, find, refl, ap, sym, ◌∙◌, subst, Option, Some, None}
+use Rattle.std.proofs.Common.{◌≡◌, ℕ, Bool, true, false, not, ◌||◌, List, ◌∷◌, filter, find, refl, ap, sym, ◌∙◌, subst, Option, Some, None}
 use Rattle.std.specs.Prelude.{◌==◌}
-use Rattle.std.specs.List.{AllByRecursion, list_any}
+use Rattle.std.specs.List.{list_any}
 use Rattle.std.specs.Option.{option_map_or}
 use Rattle.std.proofs.lemmas.Bool.{false≢true, or_left, or_right}
 use Rattle.ckr_base.proofs.Bools.{bool-cases}
 use Rattle.ckr_base.proofs.Numbers.{equal-itself}
-use Rattle.ckr_base.proofs.Sequences.{all-get}
+use Rattle.ckr_base.proofs.Sequences.{all-get, each-filter}
 use Rattle.ckr_meaning.specs.StepRun.{StepStart}
 use Rattle.ckr_points.specs.Follows.{is_running}
 use Rattle.ckr_points.specs.Office.{Office}
@@ -15,13 +15,6 @@ use Rattle.ckr_desk_turn.specs.Desk.{DeskModel, DeskStep, with_change, with_prog
 use Rattle.ckr_desk_turn.specs.Units.{StepProgress}
 use Rattle.ckr_desk_turn.specs.Invariant.{HasCome, HasComeSo, IsDesk, IsGoing, is_accounted}
 use Rattle.ckr_desk_turn.proofs.OtherRuns.{all-by, running-same}
-
-pub all-filtered : {X : Type 0} (P : X → Type 0) (keep : X → Bool) (xs : List X) → AllByRecursion P xs → AllByRecursion P (filter keep xs)
-all-filtered P keep [] each = tt
-all-filtered P keep (x ∷ xs) each =
-    bool-cases (keep x)
-    (λ kept. subst (λ b. AllByRecursion P (cond b (x ∷ filter keep xs) (filter keep xs))) (sym kept) (each.0, all-filtered P keep xs each.1))
-    (λ gone. subst (λ b. AllByRecursion P (cond b (x ∷ filter keep xs) (filter keep xs))) (sym gone) (all-filtered P keep xs each.1))
 
 module _ (desk : DeskModel) (is : IsDesk desk) (run : ℕ) (progress : StepProgress) where
   abbrev pub moved : DeskModel
@@ -48,7 +41,7 @@ module _ (desk : DeskModel) (is : IsDesk desk) (run : ℕ) (progress : StepProgr
   pub moved-kept : IsGoing desk.office (record { run = run; progress = progress; code = None }) → IsDesk moved
   moved-kept going = record {
     kept = is.kept;
-    going = (going, all-filtered (IsGoing desk.office) (λ (step : DeskStep). not (step.run == run)) desk.running is.going);
+    going = (going, each-filter (IsGoing desk.office) (λ (step : DeskStep). not (step.run == run)) desk.running is.going);
     failed = is.failed;
     states = is.states;
     admitted = is.admitted;

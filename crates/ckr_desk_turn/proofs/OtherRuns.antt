@@ -8,7 +8,7 @@ use Rattle.std.proofs.lemmas.Option.{same_Some}
 use Rattle.ckr_base.proofs.Bools.{and-first, and-second, bool-cases, if-then}
 use Rattle.ckr_base.proofs.Numbers.{equal-false, equal-true, number-cases}
 use Rattle.ckr_base.proofs.Options.{some-not-none}
-use Rattle.ckr_base.proofs.Sequences.{all-get, each-get}
+use Rattle.ckr_base.proofs.Sequences.{all-get, each-by_place, each-get}
 use Rattle.ckr_library.specs.NameMaps.{Name, entry_at, taken_over, with_moved}
 use Rattle.ckr_library.proofs.Named.{each-at, each-with_entry, each-without_entry}
 use Rattle.ckr_meaning.specs.LibrarySet.{AreWithinSpace, IsWithinSpace, Library, LibrarySet}
@@ -28,10 +28,6 @@ use Rattle.ckr_desk_turn.specs.Invariant.{IsAdmitted, IsDesk, IsFailed, IsGoing,
 pub all-by : {X : Type 0} (test : X → Bool) (xs : List X) → ((place : ℕ) (x : X) → slice_get xs place ≡ Some x → test x ≡ true) → list_all test xs ≡ true
 all-by test [] each = refl
 all-by test (first ∷ xs) each = and_from (test first) (list_all test xs) (each 0 first refl) (all-by test xs (λ place x at. each (suc place) x at))
-
-pub every-by : {X : Type 0} (P : X → Type 0) (xs : List X) → ((place : ℕ) (x : X) → slice_get xs place ≡ Some x → P x) → AllByRecursion P xs
-every-by P [] each = tt
-every-by P (first ∷ xs) each = (each 0 first refl, every-by P xs (λ place x at. each (suc place) x at))
 
 -- what holds of each holds of one that passes a test
 pub some-holds : {X A : Type 0} (P : X → Type 0) (test : X → Bool) (xs : List X) → AllByRecursion P xs → list_any test xs ≡ true → ((x : X) → P x → test x ≡ true → A) → A
@@ -196,7 +192,7 @@ module _ (desk later : DeskModel) (is : IsDesk desk) (job : ℕ) (next : RunRow)
 
   pub admitted-then : IsAdmitted next → AllByRecursion IsAdmitted later.office.tables.runs
   admitted-then admitted =
-      every-by IsAdmitted later.office.tables.runs
+      each-by_place IsAdmitted later.office.tables.runs
       (λ place row at.
       number-cases (suc place) job
       (λ same. subst IsAdmitted (same_Some next row (sym changes.mine ∙ ap (run_of later.office.tables) (sym same) ∙ at)) admitted)

@@ -5,7 +5,7 @@ use Rattle.std.specs.List.{AllByRecursion, list_any}
 use Rattle.ckr_base.specs.declared.code.Code.{Code}
 use Rattle.ckr_base.proofs.Bools.{bool-cases}
 use Rattle.ckr_base.proofs.Numbers.{equal-itself}
-use Rattle.ckr_base.proofs.Sequences.{all-implies}
+use Rattle.ckr_base.proofs.Sequences.{all-implies, each-filter}
 use Rattle.ckr_points.specs.Follows.{is_running}
 use Rattle.ckr_points.specs.Office.{Office}
 use Rattle.ckr_points.specs.Rows.{RunRow}
@@ -13,7 +13,7 @@ use Rattle.ckr_desk_turn.specs.declared.failed_run.FailedRun.{FailedRun}
 use Rattle.ckr_desk_turn.specs.Desk.{DeskModel, DeskStep, asked_run, coded_step, waiting, with_asked, with_code, with_progress, without_run}
 use Rattle.ckr_desk_turn.specs.Invariant.{IsDesk, IsFailed, IsGoing, is_accounted}
 use Rattle.ckr_desk_turn.specs.Units.{StepProgress, arrived}
-use Rattle.ckr_desk_turn.proofs.Moves.{accounted_so, all-filtered}
+use Rattle.ckr_desk_turn.proofs.Moves.{accounted_so}
 
 -- a step that has stopped with a code, of which only the writes are asked
 abbrev pub stopped : DeskStep → Code → DeskStep
@@ -121,7 +121,7 @@ moved-waits desk is run progress code going = record {
   kept = is.kept;
   going = (
     subst (λ b. IsGoing desk.office (cond b (stopped first code) first)) (sym (equal-itself run)) going,
-    coded-all desk.office run code (without_run run desk.running) (all-filtered (IsGoing desk.office) (λ (step : DeskStep). not (step.run == run)) desk.running is.going),
+    coded-all desk.office run code (without_run run desk.running) (each-filter (IsGoing desk.office) (λ (step : DeskStep). not (step.run == run)) desk.running is.going),
   );
   failed = asked-all desk.office run desk.failed is.failed;
   states = is.states;

@@ -39,6 +39,14 @@ pub comes_card : (fault : Fault) (number card : ℕ) → ComesFirst fault number
 comes_card fault number card (inl less) = omega arith
 comes_card fault number card (inr same) = omega (arith, same.0)
 
+-- a table without a fault has none in its first row, and none behind it
+pub own_none : (number : ℕ) (own : Option ℕ) (rows : List (ℕ × Option ℕ)) → HasNone ((number, own) ∷ rows) → own ≡ None
+own_none number None rows none = refl
+own_none number (Some card) rows none = absurd (none number card (here rows))
+
+pub rows_none : (row : ℕ × Option ℕ) (rows : List (ℕ × Option ℕ)) → HasNone (row ∷ rows) → HasNone rows
+rows_none row rows none number card stands = none number card (there row rows stands)
+
 -- where a table has no least fault it has none
 pub has_none : (rows : List (ℕ × Option ℕ)) → least_fault rows ≡ None → HasNone rows
 has_none [] none number card stands = elim stands [ ]

@@ -4,6 +4,7 @@ pub mod MetNames
 pub mod Repeats
 pub mod CheckpointDds
 pub mod Limits
+pub mod CardLimit
 pub mod StatementOrder
 pub mod Definitions
 pub mod Examples

@@ -312,11 +312,18 @@ fn dd_beyond(steps: &[StepText]) -> Option<u32>
     None
 }
 
-/// Card 100,001.
+/// The most cards that a deck may have (J23; this project's profile). The card behind them refuses it.
+pub const MOST_CARDS: u32 = 100_000;
+
+/// The card behind the most that a deck may have.
 const fn card_beyond(cards: u32) -> Option<u32>
     ensures { result ≡ card_beyond cards }
 {
-    if cards > 100_000 { Some(100_001) } else { None }
+    if cards > MOST_CARDS {
+        Some(MOST_CARDS + 1)
+    } else {
+        None
+    }
 }
 
 /// The last card of a deck without a step.

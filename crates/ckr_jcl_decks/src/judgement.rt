@@ -42,7 +42,7 @@ fn least_of_names(alloc: Global, cards: u32, job: &JobText) -> Result<Option<Fau
 }
 
 /// The fault, of J12 to J24, of the least card of a deck of so many cards whose statements have none, and of these the one of the least number
-/// (IBM GC28-6704 and this project's profile).
+/// (IBM GC28-6704 and this project's profile). `NoMemory` where there is none.
 #[tactic(auto, unfolding(crate::specs::DeckFaults::deck_faults))]
 pub fn least_of_deck(alloc: Global, cards: u32, job: &JobText) -> Result<Option<Fault>, NoMemory>
     ensures { IfOk result (λ fault. fault ≡ least_fault (deck_faults cards job.now)) }

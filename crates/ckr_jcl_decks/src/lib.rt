@@ -10,6 +10,7 @@ mod laws;
 mod met_names;
 mod repeated_names;
 
+pub use deck_faults::MOST_CARDS;
 pub use deck_reader::read_deck;
 pub use judgement::least_of_deck;
 pub use laws::{accepted_decks_are_sound, refusals_are_first_and_least};

@@ -13,6 +13,9 @@ use ckr_jcl_operands::DsnText;
 use std::alloc::Global;
 use std::collections::BTreeSet;
 
+/// So many names at most are compared with each other; more are met in a set, which takes less time then.
+const FEW_NAMES: usize = 16;
+
 /// Puts the names of a DD among those that were met, and tells whether both are new.
 fn is_new_dd(
     names: &mut BTreeSet<Name8>,
@@ -94,7 +97,7 @@ fn repeated_of_many(alloc: Global, dds: &[DdText]) -> Result<Option<u32>, NoMemo
 fn repeated_dd(alloc: Global, dds: &[DdText]) -> Result<Option<u32>, NoMemory>
     ensures { IfOk result (λ card. card ≡ repeated_dd [] dds.now) }
 {
-    if dds.len() <= 16 {
+    if dds.len() <= FEW_NAMES {
         return Ok(repeated_of_few(dds));
     }
     repeated_of_many(alloc, dds)
@@ -146,7 +149,7 @@ fn repeated_in_many(alloc: Global, steps: &[StepText]) -> Result<Option<u32>, No
 fn repeated_in(alloc: Global, steps: &[StepText]) -> Result<Option<u32>, NoMemory>
     ensures { IfOk result (λ card. card ≡ repeated_in [] steps.now) }
 {
-    if steps.len() <= 16 {
+    if steps.len() <= FEW_NAMES {
         return repeated_in_few(alloc, steps);
     }
     repeated_in_many(alloc, steps)

@@ -2,7 +2,6 @@
 ghost use Rattle.std.specs.Prelude.{◌≡◌, ◌&&◌, List, find, bytes_eq};
 ghost use Rattle.std.specs.Option.{option_map, option_copied, is_some};
 ghost use Rattle.ckr_base.specs.Grammar.{is_name8};
-ghost use Rattle.ckr_cards.specs.Tables.{is_among, words};
 ghost use Rattle.ckr_jcl_operands.specs.JobValues.{parm_value};
 ghost use Rattle.ckr_jcl_operands.specs.Keywords.{is_read, is_without_effect, is_left_out, is_known_keyword, positional_room, is_positional, is_left_out_alone, is_right_job_value, is_right_dd_value, is_right_read_value, is_some_text, is_right_value, has_key, value_of};
 

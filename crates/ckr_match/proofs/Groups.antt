@@ -5,6 +5,7 @@ use Rattle.std.specs.Option.{option_map_or}
 use Rattle.std.proofs.lemmas.List.{map-append}
 use Rattle.ckr_base.specs.declared.programs.Output.TheVariants.{Rejects}
 use Rattle.ckr_base.specs.declared.programs.Write.{Write}
+use Rattle.ckr_base.proofs.Sequences.{last-append}
 use Rattle.ckr_match.specs.InputOrder.{Taken, Keys}
 use Rattle.ckr_match.specs.Images.{same_key}
 use Rattle.ckr_match.specs.Master.{write_to, outcome_of, reject_if, Balance, nothing_held, after_taken, balance_of, onto_groups, groups_of, write_held, group_writes, master_writes}
@@ -145,16 +146,12 @@ by_push P none more taken = go [] taken none
     go front [] holds = subst P (sym (append-nil front)) holds
     go front (x ∷ xs) holds = subst P (append_assoc front (x ∷ []) xs) (go (front ++ x ∷ []) xs (more front x holds))
 
-pub last-push : {A : Type 0} (o : Option A) (xs : List A) (y : A) → last_or o (xs ++ y ∷ []) ≡ Some y
-last-push o [] y = refl
-last-push o (x ∷ xs) y = last-push (Some x) xs y
-
 pub last-joined : (keys : Keys) (last : Option (List Taken)) (next : Taken) → last_or None (joined keys last next) ≡ Some next
 last-joined keys None next = refl
 last-joined keys (Some group) next = by (continues keys group next)
   where
     by : (b : Bool) → last_or None (cond b (group ++ next ∷ []) (next ∷ [])) ≡ Some next
-    by true = last-push None group next
+    by true = last-append None group next
     by false = refl
 
 pub last_group-push : (keys : Keys) (taken : List Taken) (next : Taken) → last_or None (groups_of keys (taken ++ next ∷ [])) ≡ Some (joined keys (last_or None (groups_of keys taken)) next)
@@ -167,5 +164,5 @@ last_in_group (Some group) = last_or None group
 pub last_of_last : (keys : Keys) (taken : List Taken) → last_in_group (last_or None (groups_of keys taken)) ≡ last_or None taken
 last_of_last keys taken =
     by_push (λ all. last_in_group (last_or None (groups_of keys all)) ≡ last_or None all) refl
-    (λ front next holds. ap last_in_group (last_group-push keys front next) ∙ last-joined keys (last_or None (groups_of keys front)) next ∙ sym (last-push None front next))
+    (λ front next holds. ap last_in_group (last_group-push keys front next) ∙ last-joined keys (last_or None (groups_of keys front)) next ∙ sym (last-append None front next))
     taken

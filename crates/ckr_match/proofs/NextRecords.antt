@@ -5,6 +5,7 @@ use Rattle.std.specs.Option.{option_map}
 use Rattle.std.proofs.lemmas.List.{map-append, length-append}
 use Rattle.std.proofs.lemmas.List.Elements.{filter-append}
 use Rattle.ckr_base.specs.declared.programs.Output.TheVariants.{Main, Rejects}
+use Rattle.ckr_base.proofs.Sequences.{last-append}
 use Rattle.ckr_jcl.specs.declared.deck.Kind.{Kind}
 use Rattle.ckr_jcl.specs.declared.deck.Kind.TheVariants.{Copy, Select, Merge, Master, Update, Print, Br14}
 use Rattle.ckr_jcl.specs.declared.deck.Parm.{Parm}
@@ -15,7 +16,7 @@ use Rattle.ckr_match.specs.Master.{write_to, outcome_of, reject_if, groups_of, w
 use Rattle.ckr_match.specs.Work.{match_writes, write_at}
 use Rattle.ckr_match.specs.Units.{held_in, last_master}
 use Rattle.ckr_match.specs.Steps.{step_of, carried, released, place_by, is_master}
-use Rattle.ckr_match.proofs.Groups.{groups-push, writes-grown, writes-closed, last-push, last_group-push, balance-joined, carried_by, held_by}
+use Rattle.ckr_match.proofs.Groups.{groups-push, writes-grown, writes-closed, last_group-push, balance-joined, carried_by, held_by}
 use Rattle.ckr_match.proofs.HeldRecords.{tests_hold}
 use Rattle.ckr_match.proofs.Places.{AreOrdered, ordered-push, master_more, transaction_more}
 use Rattle.ckr_match.proofs.Walk.{Reached, goes_on, ended, stuck, reached}
@@ -83,7 +84,7 @@ pushes_update parm state taken false bytes mark behind ordered low = record {
   last =
       ap (λ n. Some (n, bytes)) (behind.first ∙ (let e : length (of_first taken) ≡ length (of_first taken) + 1 - 1 = omega arith in e))
       ∙ sym (ap (λ masters. option_map (λ x. (length masters - 1, x.bytes)) (last_or None masters)) (first-master taken bytes mark)
-      ∙ ap (option_map (λ x. (length (of_first taken ++ one false bytes mark ∷ []) - 1, x.bytes))) (last-push None (of_first taken) (one false bytes mark))
+      ∙ ap (option_map (λ x. (length (of_first taken ++ one false bytes mark ∷ []) - 1, x.bytes))) (last-append None (of_first taken) (one false bytes mark))
       ∙ ap (λ n. Some (n - 1, bytes)) (length-append (of_first taken) (one false bytes mark ∷ [])));
 }
 pushes_update parm state taken true bytes mark behind ordered low = record {

@@ -12,6 +12,7 @@ use Rattle.ckr_base.specs.declared.programs.Finish.TheVariants.{Returned, Abend}
 use Rattle.ckr_base.specs.declared.programs.Heads.{Heads}
 use Rattle.ckr_base.specs.declared.programs.UnitDone.{UnitDone}
 use Rattle.ckr_base.specs.declared.programs.Write.{Write}
+use Rattle.ckr_base.proofs.Sequences.{last-append}
 use Rattle.ckr_jcl.specs.declared.deck.Kind.{Kind}
 use Rattle.ckr_jcl.specs.declared.deck.Parm.{Parm}
 use Rattle.ckr_match.specs.declared.state.MatchState.{MatchState}
@@ -23,7 +24,6 @@ use Rattle.ckr_match.specs.Work.{MatchCase, case_keys, taken_records, is_whole, 
 use Rattle.ckr_match.specs.State.{return_code}
 use Rattle.ckr_match.specs.Units.{last_key, held_in, last_master, first_taken, StandsFor, IsUnitAt, between, next_input, unit_done, taken_behind}
 use Rattle.ckr_match.specs.Steps.{step_of, may_come, is_next, counted, key_at, input_number, closing_writes, is_master, unit_for, state_behind}
-use Rattle.ckr_match.proofs.Groups.{last-push}
 use Rattle.ckr_match.proofs.NextRecords.{IsBehind, Pushes, pushes, closes, ordered_taken, first-master, first-transaction, second-master, second-transaction}
 use Rattle.ckr_match.proofs.Walk.{last_in, follows_last, Reached, goes_on, ended, stuck, reached}
 
@@ -107,7 +107,7 @@ record_is_done state parm first second taken false bytes mark faulty stands test
             first = ap (λ n. n + 1) stands.first ∙ sym (ap length firsts ∙ length-append (of_first before) (record { second = false; bytes = bytes; faulty = mark } ∷ []));
             second = stands.second ∙ sym (ap length seconds);
             rejects = ap (λ n. n + rejects_in made.writes.items) stands.rejects ∙ sym (ap rejects_in adds ∙ rejects_in-append (upto case taken) made.writes.items);
-            first_key = sym (ap (last_key keys) firsts ∙ ap (λ z. option_map_or (key_of keys) z []) (last-push None (of_first before) (record { second = false; bytes = bytes; faulty = mark })));
+            first_key = sym (ap (last_key keys) firsts ∙ ap (λ z. option_map_or (key_of keys) z []) (last-append None (of_first before) (record { second = false; bytes = bytes; faulty = mark })));
             second_key = stands.second_key ∙ sym (ap (last_key keys) seconds);
             held = p.held ∙ sym (ap (held_in state.kind keys) more);
             last = p.last ∙ sym (ap (last_master state.kind) more);
@@ -135,7 +135,7 @@ record_is_done state parm first second taken true bytes mark faulty stands test 
             second = ap (λ n. n + 1) stands.second ∙ sym longer;
             rejects = ap (λ n. n + rejects_in made.writes.items) stands.rejects ∙ sym (ap rejects_in adds ∙ rejects_in-append (upto case taken) made.writes.items);
             first_key = stands.first_key ∙ sym (ap (last_key keys) firsts);
-            second_key = sym (ap (last_key keys) seconds ∙ ap (λ z. option_map_or (key_of keys) z []) (last-push None (of_second before) (record { second = true; bytes = bytes; faulty = mark })));
+            second_key = sym (ap (last_key keys) seconds ∙ ap (λ z. option_map_or (key_of keys) z []) (last-append None (of_second before) (record { second = true; bytes = bytes; faulty = mark })));
             held = p.held ∙ sym (ap (held_in state.kind keys) more);
             last = p.last ∙ sym (ap (last_master state.kind) more);
           });

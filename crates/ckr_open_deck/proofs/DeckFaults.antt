@@ -1,13 +1,14 @@
 -- No fault of a whole deck looks at the records of a DD.
 use Rattle.std.proofs.Common.{◌≡◌, ℕ, ◌+◌, ◌==◌, ◌&&◌, ◌||◌, not, Bool, true, false, cond, if◌then◌else◌, nat_lt, List, [], ◌∷◌, ◌++◌, map, find, fold, position, slice_get, Option, Some, None, refl, ap, ap₂, sym, ◌∙◌}
-use Rattle.std.specs.List.{list_any, list_all, position_or_len}
+use Rattle.std.specs.List.{list_any, position_or_len}
 use Rattle.std.specs.Option.{option_map, option_or, is_none}
 use Rattle.std.proofs.lemmas.List.{length-map, map-append}
 use Rattle.std.proofs.lemmas.Option.{slice_get-map}
+use Rattle.ckr_base.proofs.Sequences.{all-same}
 use Rattle.ckr_jcl.specs.declared.deck.Kind.{Kind}
 use Rattle.ckr_jcl.specs.declared.deck.Parm.{Parm}
 use Rattle.ckr_jcl.specs.declared.deck.Role.{Role}
-use Rattle.ckr_jcl.specs.declared.deck.Role.TheVariants.{Reads, Writes, Updates, Checkpoints, Unused}
+use Rattle.ckr_jcl.specs.declared.deck.Role.TheVariants.{Reads, Unused}
 use Rattle.ckr_jcl.specs.Text.{if_holds}
 use Rattle.ckr_jcl.specs.Programs.{names_read, names_written, names_updated, names_checkpointed}
 use Rattle.ckr_jcl_operands.specs.declared.job_values.RestartText.{RestartText}
@@ -71,12 +72,6 @@ module _ {X : Type 0} (f : X → X) (test other : X → Bool) (same : (x : X) �
   position-map : (xs : List X) → position test (map f xs) ≡ position other xs
   position-map xs = ap₂ (λ place size. cond (nat_lt place size) (Some place) None) (place-map xs) (length-map xs f)
 
--- tests that agree hold of all alike
-all-same : {X : Type 0} (test other : X → Bool) → ((x : X) → test x ≡ other x) → (xs : List X)
-    → list_all test xs ≡ list_all other xs
-all-same test other same [] = refl
-all-same test other same (x ∷ xs) = ap₂ (λ a b. a && b) (same x) (all-same test other same xs)
-
 -- the card of a bare step
 step_card-same : (step : Option StepText) → option_map step_card (option_map bare_step step) ≡ option_map step_card step
 step_card-same None = refl
@@ -121,10 +116,7 @@ dd_or_syschk-same test same job =
 breaks_role-same : (role : Role) (dd : DdText) → breaks_role role (bare_dd dd) ≡ breaks_role role dd
 unfolding breaks_role
 breaks_role-same Reads dd = refl
-breaks_role-same Writes dd = refl
-breaks_role-same Updates dd = refl
-breaks_role-same Checkpoints dd = refl
-breaks_role-same Unused dd = refl
+breaks_role-same other dd = refl
 
 -- a wrong use
 wrong_use-same : (dd : DdText) → is_wrong_use (bare_dd dd) ≡ is_wrong_use dd

@@ -4,11 +4,9 @@ ghost use Rattle.ckr_cards.specs.Card.{stored_line};
 
 use ckr_base::NoMemory;
 use ckr_cards::StoredCard;
+use ckr_jcl_decks::MOST_CARDS;
 use std::alloc::Global;
 use std::marker::Model;
-
-/// The most cards that a deck may have (this project's profile). The card behind them refuses it.
-const MOST_CARDS: usize = 100_000;
 
 /// A line behind these cards, as which its card is kept: how many bytes of it, at most 80, and whether it was longer.
 #[derive(Clone, Copy)]
@@ -62,7 +60,7 @@ impl OpenDeck {
         ensures few { IfSome result (λ bytes. length bytes.now ≤ 81 * 100000) }
         ensures many { result ≡ None → 81 * 100000 < length self.now }
     {
-        if self.cards.len() > MOST_CARDS {
+        if self.cards.len() > MOST_CARDS as usize {
             return None;
         }
         Some(self.cards.as_flattened())
@@ -88,7 +86,7 @@ impl OpenDeck {
         ensures ok { OnOk result (self.new ≡ self.old ++ card) }
         ensures err { OnErr result (self.new ≡ self.old) }
     {
-        if self.cards.len() > MOST_CARDS {
+        if self.cards.len() > MOST_CARDS as usize {
             return self.pack(line);
         }
         self.cards.push(card)?;

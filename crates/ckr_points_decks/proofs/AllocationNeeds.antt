@@ -5,6 +5,7 @@ use Rattle.std.specs.List.{AllByRecursion}
 use Rattle.std.specs.Option.{option_map_or, is_none}
 use Rattle.std.proofs.lemmas.Bool.Decides.{nat_tests}
 use Rattle.std.proofs.lemmas.Bool.{and_from}
+use Rattle.ckr_base.proofs.Sequences.{each-both}
 use Rattle.ckr_jcl.specs.declared.deck.After.TheVariants.{Keep}
 use Rattle.ckr_jcl.specs.declared.deck.Disp.{Disp}
 use Rattle.ckr_jcl.specs.declared.deck.Job.{Job}
@@ -30,7 +31,7 @@ use Rattle.ckr_points_library.specs.Holdings.{owned}
 use Rattle.ckr_points_library.specs.AllocationSteps.{fits_named}
 use Rattle.ckr_points_decks.specs.DeckLimits.{FitsAllocation}
 use Rattle.ckr_points_decks.proofs.Origins.{dd_origin, origin-dummy, origin-stream}
-use Rattle.ckr_points_decks.proofs.DeckTests.{OfStep, NoneMeets, all_both, all_pass, none_meets, steps_hold}
+use Rattle.ckr_points_decks.proofs.DeckTests.{OfStep, NoneMeets, all_pass, none_meets, steps_hold}
 use Rattle.ckr_points_decks.proofs.Texts.{read_from, IsReadFrom}
 
 -- ---- records
@@ -130,7 +131,7 @@ step_fits : (step : StepText) → NoneMeets (breaks WrongSpace) step.dds → Non
 unfolding step_with
 step_fits step spaces records kind is root owner =
     all_pass (fits_named (name_of root (owned (step_with step kind) owner []))) dd_of step.dds
-    (all_both (λ dd. breaks WrongSpace dd ≡ false) (λ dd. breaks WrongRecords dd ≡ false) (λ dd. fits_named (name_of root (owned (step_with step kind) owner [])) (dd_of dd) ≡ true) step.dds
+    (each-both (λ dd. breaks WrongSpace dd ≡ false) (λ dd. breaks WrongRecords dd ≡ false) (λ dd. fits_named (name_of root (owned (step_with step kind) owner [])) (dd_of dd) ≡ true) step.dds
     (λ dd space right. named_fits root owner (step_with step kind) dd space right) spaces records)
 
 fit_in : (job : Job) → IsReadFrom job → AllByRecursion FitsAllocation job.steps
@@ -138,7 +139,7 @@ unfolding job_of
 fit_in job read =
     subst (λ (j : Job). AllByRecursion FitsAllocation j.steps) (sym read.is)
     (steps_hold FitsAllocation read.text.steps
-    (all_both (λ step. NoneMeets (breaks WrongSpace) step.dds) (λ step. NoneMeets (breaks WrongRecords) step.dds) (OfStep FitsAllocation) read.text.steps
+    (each-both (λ step. NoneMeets (breaks WrongSpace) step.dds) (λ step. NoneMeets (breaks WrongRecords) step.dds) (OfStep FitsAllocation) read.text.steps
     step_fits (none_meets (breaks WrongSpace) read.text.steps read.faultless.spaces) (none_meets (breaks WrongRecords) read.text.steps read.faultless.records)))
 
 pub all_fit : (cards : List ℕ) (job : Job) → stored_deck cards ≡ Ok job → AllByRecursion FitsAllocation job.steps

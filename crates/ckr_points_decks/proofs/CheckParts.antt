@@ -9,7 +9,7 @@ use Rattle.std.specs.Option.{option_map}
 use Rattle.ckr_base.specs.Grammar.{is_name_byte, is_text_of}
 use Rattle.ckr_base.proofs.Bools.{and-first, and-second, or-false}
 use Rattle.ckr_base.proofs.Numbers.{equal-from}
-use Rattle.ckr_base.proofs.Sequences.{each-implies}
+use Rattle.ckr_base.proofs.Sequences.{each-both, each-implies}
 use Rattle.ckr_cards.specs.Tables.{is_among}
 use Rattle.ckr_jcl.specs.Text.{if_holds}
 use Rattle.ckr_jcl.specs.declared.deck.Job.{Job}
@@ -31,7 +31,7 @@ use Rattle.ckr_jcl_decks.specs.DeckFaults.{parm_of, parm_or_none}
 use Rattle.ckr_jcl_decks.specs.Deck.{dd_of, default_length, job_of, record_length, step_with, stored_deck}
 use Rattle.ckr_points.specs.Tables.{is_checkpoints}
 use Rattle.ckr_points_decks.specs.DeckLimits.{HasCheckParts, are_ids, has_check_records}
-use Rattle.ckr_points_decks.proofs.DeckTests.{OfStep, all_both, all_pass, steps_hold}
+use Rattle.ckr_points_decks.proofs.DeckTests.{OfStep, all_pass, steps_hold}
 use Rattle.ckr_points_decks.proofs.JobForm.{judged}
 use Rattle.ckr_points_decks.proofs.ParmItems.{read-holds}
 use Rattle.ckr_points_decks.proofs.Roles.{IsJudged, dd_role, keeps_role}
@@ -119,7 +119,7 @@ step_checked step judged kind is = record {
   ids = has-ids kind step.parm.items;
   records =
       all_pass has_check_records dd_of step.dds
-      (all_both (IsStated step.program) (λ dd. breaks WrongUse dd ≡ false) (λ dd. has_check_records (dd_of dd) ≡ true) step.dds
+      (each-both (IsStated step.program) (λ dd. breaks WrongUse dd ≡ false) (λ dd. has_check_records (dd_of dd) ≡ true) step.dds
       (λ dd stated used. check-records kind dd (dd_role kind step.program dd is stated) used) judged.stated judged.used);
 }
 

@@ -7,6 +7,7 @@ use Rattle.std.proofs.lemmas.Slice.Eq.{bytes_eq-Decides}
 use Rattle.std.specs.Prelude.{bytes_eq, codes, unwrap_or}
 use Rattle.std.specs.List.{list_any}
 use Rattle.std.specs.Option.{is_some, option_and_then, option_map}
+use Rattle.ckr_base.proofs.Options.{option_or-none}
 use Rattle.ckr_cards.specs.declared.kind.StatementKind.{StatementKind}
 use Rattle.ckr_cards.specs.declared.operand.Operand.{Operand}
 use Rattle.ckr_cards.specs.declared.statement.Statement.{Statement}
@@ -20,8 +21,7 @@ use Rattle.ckr_jcl_decks.specs.Parts.Faults.{are_alike, are_apart, clash_from, c
 use Rattle.ckr_jcl_decks.specs.Parts.Keywords.{has_key, positional_room, value_of}
 use Rattle.ckr_jcl_decks.specs.Least.{HasNone}
 use Rattle.ckr_jcl.specs.Text.{if_holds}
-use Rattle.ckr_points_decks.proofs.DeckTests.{or_none}
-use Rattle.ckr_points_decks.proofs.Texts.{own_none, rows_none}
+use Rattle.ckr_jcl_decks.proofs.LeastFault.{own_none, rows_none}
 
 -- ---- tests
 
@@ -53,7 +53,7 @@ any_last test before operand is = list_any-append test before (operand ∷ []) �
 none_behind : (first second : Operand → Bool) → Clash first second → (before rest : List Operand) → clash_from before rest ≡ None → list_any second before ≡ true → list_any first rest ≡ false
 none_behind first second clash before [] none any = refl
 none_behind first second clash before (operand ∷ rest) none any =
-    let both = or_none (if_holds (list_any (clashes_with operand) before) operand.card) (clash_from (before ++ operand ∷ []) rest) none in
+    let both = option_or-none (if_holds (list_any (clashes_with operand) before) operand.card) (clash_from (before ++ operand ∷ []) rest) none in
     by_test (if_none (list_any (clashes_with operand) before) operand.card both.0) (none_behind first second clash (before ++ operand ∷ []) rest both.1 (any_more second before operand any)) (first operand) refl
   where
     by_test : list_any (clashes_with operand) before ≡ false → list_any first rest ≡ false → (b : Bool) → first operand ≡ b → (first operand || list_any first rest) ≡ false
@@ -65,7 +65,7 @@ one_alone : (first second : Operand → Bool) → Clash first second → Clash s
     → list_any second rest ≡ true → list_any first rest ≡ false
 one_alone first second clash turned apart before [] none any = refl
 one_alone first second clash turned apart before (operand ∷ rest) none any =
-    let later = (or_none (if_holds (list_any (clashes_with operand) before) operand.card) (clash_from (before ++ operand ∷ []) rest) none).1 in
+    let later = (option_or-none (if_holds (list_any (clashes_with operand) before) operand.card) (clash_from (before ++ operand ∷ []) rest) none).1 in
     by_tests later (one_alone first second clash turned apart (before ++ operand ∷ []) rest later) (first operand) refl (second operand) refl
   where
     by_tests : clash_from (before ++ operand ∷ []) rest ≡ None → (list_any second rest ≡ true → list_any first rest ≡ false) → (b : Bool) → first operand ≡ b → (c : Bool) → second operand ≡ c → (first operand || list_any first rest) ≡ false
@@ -114,7 +114,7 @@ not_both a one other =
 all_known : (kind : StatementKind) (room : ℕ) (operands : List Operand) → unknown_from kind room operands ≡ None → known_front kind room operands ≡ operands
 all_known kind room [] none = refl
 all_known kind room (operand ∷ rest) none =
-    let both = or_none (if_holds (not (is_known kind room operand)) operand.card) (unknown_from kind (room_behind room operand) rest) none in
+    let both = option_or-none (if_holds (not (is_known kind room operand)) operand.card) (unknown_from kind (room_behind room operand) rest) none in
     let known = not-false (is_known kind room operand) (if_none (not (is_known kind room operand)) operand.card both.0) in
     ap (λ (b : Bool). cond b (operand ∷ known_front kind (room_behind room operand) rest) []) known
     ∙ ap (λ (more : List Operand). operand ∷ more) (all_known kind (room_behind room operand) rest both.1)

@@ -1,15 +1,16 @@
 -- An accepted deck is within the limits of decks, and each PARM in the ranges that its program rests on.
 use Rattle.std.proofs.Common.{inl, inr, ◌≡◌, ◌≤◌, ℕ, true, nat_le, List, [], ◌∷◌, length, map, Option, Some, None, Result, Ok, Err, refl, sym, ◌∙◌, subst, arith}
 use Rattle.std.proofs.lemmas.List.{length-map}
-use Rattle.std.proofs.lemmas.Grind.{common_steps}
 use Rattle.std.proofs.lemmas.Option.{none-some, slice_get_cases}
 use Rattle.std.specs.Prelude.{slice_get}
 use Rattle.std.specs.List.{AllByRecursion, cons_option, filter_map, list_all}
 use Rattle.std.specs.Option.{option_map}
 use Rattle.ckr_base.proofs.Sequences.{each-implies}
+use Rattle.ckr_base.proofs.Options.{option_or-none}
 use Rattle.ckr_jcl.specs.declared.deck.Job.{Job}
 use Rattle.ckr_jcl.specs.declared.deck.Kind.{Kind}
 use Rattle.ckr_jcl.specs.declared.deck.Parm.{Parm}
+use Rattle.ckr_jcl_decks.proofs.CardLimit.{lesser-none}
 use Rattle.ckr_jcl_decks.specs.Parts.DdText.{DdText}
 use Rattle.ckr_jcl_decks.specs.Parts.JobText.{JobText}
 use Rattle.ckr_jcl_decks.specs.Parts.StepText.{StepText}
@@ -22,15 +23,10 @@ use Rattle.ckr_jcl.specs.ParmGrammar.{read_parm_text}
 use Rattle.ckr_programs.specs.Ranges.{IsInRange}
 use Rattle.ckr_programs.proofs.Ranges.{read_parm_ranges}
 use Rattle.ckr_points_decks.specs.DeckLimits.{IsWithinLimits, has_few_volumes}
-use Rattle.ckr_points_decks.proofs.DeckTests.{OfStep, all_pass, map_none, or_none, steps_hold}
+use Rattle.ckr_points_decks.proofs.DeckTests.{OfStep, all_pass, map_none, steps_hold}
 use Rattle.ckr_points_decks.proofs.Texts.{IsReadFrom, read_from}
 
 -- ---- counts
-
-lesser_none : (first second : Option ℕ) → lesser first second ≡ None → (first ≡ None) × (second ≡ None)
-lesser_none None second none = (refl, none)
-lesser_none (Some card) None none = absurd (none-some card (sym none))
-lesser_none (Some card) (Some other) none = grind (arith, common_steps)
 
 few : {X : Type 0} (xs : List X) (place : ℕ) → slice_get xs place ≡ None → length xs ≤ place
 few xs place none =
@@ -42,7 +38,7 @@ few xs place none =
 few_dds : (steps : List StepText) → dd_beyond steps ≡ None → AllByRecursion (λ step. length step.dds ≤ 16) steps
 few_dds [] none = tt
 few_dds (step ∷ rest) none =
-    let both = or_none (option_map dd_card (slice_get step.dds 16)) (dd_beyond rest) none in
+    let both = option_or-none (option_map dd_card (slice_get step.dds 16)) (dd_beyond rest) none in
     (few step.dds 16 (map_none dd_card (slice_get step.dds 16) both.0), few_dds rest both.1)
 
 few_chosen : (steps : List StepText) → length (filter_map step_of steps) ≤ length steps
@@ -61,10 +57,10 @@ are_few : (cards : ℕ) (job : JobText) → limit_fault cards job ≡ None → A
 unfolding limit_fault
 are_few cards job none =
     let later = lesser (card_beyond cards) (no_step cards job.steps) in
-    let both = lesser_none (step_beyond job.steps) (lesser (dd_beyond job.steps) later) none in
+    let both = lesser-none (step_beyond job.steps) (lesser (dd_beyond job.steps) later) none in
     record {
       few = few job.steps 64 (map_none step_card (slice_get job.steps 64) both.0);
-      dds = few_dds job.steps (lesser_none (dd_beyond job.steps) later both.1).0;
+      dds = few_dds job.steps (lesser-none (dd_beyond job.steps) later both.1).0;
     }
 
 -- ---- volumes

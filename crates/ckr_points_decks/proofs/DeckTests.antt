@@ -4,6 +4,7 @@ use Rattle.std.specs.List.{AllByRecursion, cons_option, filter_map, list_all}
 use Rattle.std.specs.Option.{option_map, option_or}
 use Rattle.std.proofs.lemmas.Option.{none-some}
 use Rattle.std.proofs.lemmas.Bool.{and_from}
+use Rattle.ckr_base.proofs.Options.{option_or-none}
 use Rattle.ckr_jcl.specs.declared.deck.Kind.{Kind}
 use Rattle.ckr_jcl.specs.declared.deck.Step.{Step}
 use Rattle.ckr_jcl_decks.specs.Parts.DdText.{DdText}
@@ -11,19 +12,11 @@ use Rattle.ckr_jcl_decks.specs.Parts.StepText.{StepText}
 use Rattle.ckr_jcl_decks.specs.DeckFaults.{dd_card, dd_in_steps, dd_where}
 use Rattle.ckr_jcl_decks.specs.Deck.{step_of, step_with}
 
-pub all_both : {X : Type 0} (P Q R : X → Type 0) (xs : List X) → ((x : X) → P x → Q x → R x) → AllByRecursion P xs → AllByRecursion Q xs → AllByRecursion R xs
-all_both P Q R [] both first second = tt
-all_both P Q R (x ∷ xs) both first second = (both x first.0 second.0, all_both P Q R xs both first.1 second.1)
-
 pub all_pass : {X Y : Type 0} (test : Y → Bool) (f : X → Y) (xs : List X) → AllByRecursion (λ x. test (f x) ≡ true) xs → list_all test (map f xs) ≡ true
 all_pass test f [] all = refl
 all_pass test f (x ∷ xs) all = and_from (test (f x)) (list_all test (map f xs)) all.0 (all_pass test f xs all.1)
 
 -- ---- DDs
-
-pub or_none : (first second : Option ℕ) → option_or first second ≡ None → (first ≡ None) × (second ≡ None)
-or_none None second none = (refl, none)
-or_none (Some card) second none = absurd (none-some card (sym none))
 
 pub map_none : {X : Type 0} (card : X → ℕ) (found : Option X) → option_map card found ≡ None → found ≡ None
 map_none card None none = refl
@@ -44,7 +37,7 @@ none_found {X} test (x ∷ xs) none = by_test (none_found test xs) (test x) refl
 pub none_meets : (test : DdText → Bool) (steps : List StepText) → dd_in_steps test steps ≡ None → AllByRecursion (λ step. NoneMeets test step.dds) steps
 none_meets test [] none = tt
 none_meets test (step ∷ rest) none =
-    let both = or_none (dd_where test step.dds) (dd_in_steps test rest) none in
+    let both = option_or-none (dd_where test step.dds) (dd_in_steps test rest) none in
     (none_found test step.dds (map_none dd_card (find test step.dds) both.0), none_meets test rest both.1)
 
 -- ---- steps

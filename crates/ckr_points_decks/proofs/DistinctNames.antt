@@ -1,5 +1,5 @@
 -- DDs of different names, and with different data set names, have different names in the library.
-use Rattle.std.proofs.Common.{◌≡◌, ℕ, Bool, true, false, ◌&&◌, not, List, [], ◌∷◌, ◌++◌, map, Option, Some, None, refl, ap, sym, ◌∙◌, subst, cond, append_assoc, drop, length, nat_le}
+use Rattle.std.proofs.Common.{◌≡◌, ℕ, Bool, true, false, ◌&&◌, not, List, ◌∷◌, ◌++◌, map, Option, Some, None, refl, ap, sym, ◌∙◌, subst, cond, append_assoc, drop}
 use Rattle.std.proofs.lemmas.Bool.{and_parts, false≢true, not-true}
 use Rattle.std.proofs.lemmas.List.{append_cancel_left}
 use Rattle.std.proofs.lemmas.List.Folds.{list_all-append}
@@ -7,7 +7,9 @@ use Rattle.std.proofs.lemmas.Slice.Eq.{bytes_eq-Decides}
 use Rattle.std.specs.Prelude.{bytes_eq, codes}
 use Rattle.std.specs.List.{list_all}
 use Rattle.std.specs.Option.{option_map}
-use Rattle.ckr_base.specs.Grammar.{is_ds_name, is_name8, is_name_byte, is_name_start}
+use Rattle.ckr_base.specs.Grammar.{is_ds_name, is_name8, is_name_byte}
+use Rattle.ckr_base.proofs.Sequences.{tail-same}
+use Rattle.ckr_base.proofs.NameBytes.{name8-named}
 use Rattle.ckr_jcl.specs.declared.deck.Kind.{Kind}
 use Rattle.ckr_jcl.specs.declared.deck.Origin.{Origin}
 use Rattle.ckr_jcl.specs.declared.deck.Origin.TheVariants.{InStream, Named, Temporary, Unnamed, Sysout, Dummy}
@@ -135,23 +137,15 @@ origins_apart dd other apart =
 
 -- ---- names with qualifiers
 
-tails : (one other : ℕ) (xs ys : List ℕ) → one ∷ xs ≡ other ∷ ys → xs ≡ ys
-tails one other xs ys is = cc
-
 behind_same : (front one other : Name) → qualified front one ≡ qualified front other → one ≡ other
-behind_same front one other is = tails 46 46 one other (append_cancel_left front (46 ∷ one) (46 ∷ other) is)
-
--- a name has no period
-name_bytes : (name : List ℕ) → is_name8 name ≡ true → list_all is_name_byte name ≡ true
-name_bytes [] is = refl
-name_bytes (byte ∷ rest) is = (and_parts (is_name_start byte && nat_le (length (byte ∷ rest)) 8) (list_all is_name_byte (byte ∷ rest)) is).1
+behind_same front one other is = tail-same 46 46 one other (append_cancel_left front (46 ∷ one) (46 ∷ other) is)
 
 last_false : (a : Bool) → (a && false) ≡ true → ⊥
 last_false true is = false≢true is
 last_false false is = false≢true is
 
 no_period : (front name : List ℕ) → is_name8 (front ++ 46 ∷ name) ≡ true → ⊥
-no_period front name is = last_false (list_all is_name_byte front) (sym (list_all-append is_name_byte front (46 ∷ name)) ∙ name_bytes (front ++ 46 ∷ name) is)
+no_period front name is = last_false (list_all is_name_byte front) (sym (list_all-append is_name_byte front (46 ∷ name)) ∙ name8-named (front ++ 46 ∷ name) is)
 
 -- a name behind two qualifiers isn't one behind three
 three_apart : (front name step dd : Name) → is_name8 name ≡ true → qualified front name ≡ qualified (qualified front step) dd → ⊥

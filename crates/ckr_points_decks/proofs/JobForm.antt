@@ -2,7 +2,8 @@
 use Rattle.std.proofs.Common.{◌≡◌, ℕ, true, false, ◌&&◌, List, [], ◌++◌, None, Ok, sym, subst}
 use Rattle.std.specs.List.{AllByRecursion, list_all}
 use Rattle.std.proofs.lemmas.Bool.{and_from}
-use Rattle.ckr_base.proofs.Sequences.{each-implies}
+use Rattle.ckr_base.proofs.Sequences.{each-both, each-implies}
+use Rattle.ckr_base.proofs.Options.{option_or-none}
 use Rattle.ckr_jcl.specs.declared.deck.Job.{Job}
 use Rattle.ckr_jcl_decks.specs.Parts.DdRule.TheVariants.{LeftOut, WrongUse}
 use Rattle.ckr_jcl_decks.specs.Parts.JobText.{JobText}
@@ -18,12 +19,12 @@ use Rattle.ckr_points.specs.Payload.{has_role, has_set, is_formed, is_formed_ste
 use Rattle.ckr_points_decks.specs.DeckLimits.{HasNamesOnce, IsFormed}
 use Rattle.ckr_points_decks.proofs.Repeats.{none_repeated, step_once}
 use Rattle.ckr_points_decks.proofs.Roles.{IsJudged, step_roled}
-use Rattle.ckr_points_decks.proofs.DeckTests.{NoneMeets, OfStep, all_both, all_pass, map_none, none_found, none_meets, or_none, steps_hold}
+use Rattle.ckr_points_decks.proofs.DeckTests.{NoneMeets, OfStep, all_pass, map_none, none_found, none_meets, steps_hold}
 use Rattle.ckr_points_decks.proofs.Texts.{AreStated, IsReadFrom, read_from}
 
 none_left_out : (job : JobText) → dd_or_syschk (breaks LeftOut) job ≡ None → dd_in_steps (breaks LeftOut) job.steps ≡ None
 unfolding dd_or_syschk
-none_left_out job none = (or_none (syschk_where (breaks LeftOut) job.syschk) (dd_in_steps (breaks LeftOut) job.steps) none).1
+none_left_out job none = (option_or-none (syschk_where (breaks LeftOut) job.syschk) (dd_in_steps (breaks LeftOut) job.steps) none).1
 
 none_lacks : (job : JobText) → missing_dd job ≡ None → AllByRecursion (λ step. lacks_dd step ≡ false) job.steps
 unfolding missing_dd
@@ -31,10 +32,10 @@ none_lacks job none = none_found lacks_dd job.steps (map_none step_card _ none)
 
 pub judged : (job : Job) (read : IsReadFrom job) → AllByRecursion IsJudged read.text.steps
 judged job read =
-    all_both (λ step. AreStated step × (lacks_dd step ≡ false)) (λ step. NoneMeets (breaks WrongUse) step.dds × NoneMeets (breaks LeftOut) step.dds) IsJudged read.text.steps
+    each-both (λ step. AreStated step × (lacks_dd step ≡ false)) (λ step. NoneMeets (breaks WrongUse) step.dds × NoneMeets (breaks LeftOut) step.dds) IsJudged read.text.steps
     (λ step first second. record { stated = first.0; needed = first.1; used = second.0; known = second.1 })
-    (all_both AreStated (λ step. lacks_dd step ≡ false) (λ step. AreStated step × (lacks_dd step ≡ false)) read.text.steps (λ step one other. (one, other)) read.stated (none_lacks read.text read.faultless.needed))
-    (all_both (λ step. NoneMeets (breaks WrongUse) step.dds) (λ step. NoneMeets (breaks LeftOut) step.dds) (λ step. NoneMeets (breaks WrongUse) step.dds × NoneMeets (breaks LeftOut) step.dds) read.text.steps (λ step one other. (one, other))
+    (each-both AreStated (λ step. lacks_dd step ≡ false) (λ step. AreStated step × (lacks_dd step ≡ false)) read.text.steps (λ step one other. (one, other)) read.stated (none_lacks read.text read.faultless.needed))
+    (each-both (λ step. NoneMeets (breaks WrongUse) step.dds) (λ step. NoneMeets (breaks LeftOut) step.dds) (λ step. NoneMeets (breaks WrongUse) step.dds × NoneMeets (breaks LeftOut) step.dds) read.text.steps (λ step one other. (one, other))
     (none_meets (breaks WrongUse) read.text.steps read.faultless.uses)
     (none_meets (breaks LeftOut) read.text.steps (none_left_out read.text read.faultless.left_out)))
 
@@ -47,7 +48,7 @@ step_formed step right once kind is root owner tests =
     (and_from (are_distinct (names_of root own)) (list_all (has_role kind) own.step.dds) (once kind is root owner tests) roled.roles) (roled.sets root owner tests)
 
 all_once : (job : Job) (read : IsReadFrom job) → AllByRecursion (OfStep HasNamesOnce) read.text.steps
-all_once job read = all_both AreStated (λ step. repeated_dd [] step.dds ≡ None) (OfStep HasNamesOnce) read.text.steps step_once read.stated (none_repeated read.text read.faultless.repeated)
+all_once job read = each-both AreStated (λ step. repeated_dd [] step.dds ≡ None) (OfStep HasNamesOnce) read.text.steps step_once read.stated (none_repeated read.text read.faultless.repeated)
 
 once : (job : Job) → IsReadFrom job → AllByRecursion HasNamesOnce job.steps
 unfolding job_of
@@ -57,7 +58,7 @@ formed : (job : Job) → IsReadFrom job → AllByRecursion IsFormed job.steps
 unfolding job_of
 formed job read =
     subst (λ (j : Job). AllByRecursion IsFormed j.steps) (sym read.is)
-    (steps_hold IsFormed read.text.steps (all_both IsJudged (OfStep HasNamesOnce) (OfStep IsFormed) read.text.steps step_formed (judged job read) (all_once job read)))
+    (steps_hold IsFormed read.text.steps (each-both IsJudged (OfStep HasNamesOnce) (OfStep IsFormed) read.text.steps step_formed (judged job read) (all_once job read)))
 
 -- ---- the laws
 

@@ -6,6 +6,7 @@ use Rattle.std.proofs.lemmas.List.{length-take-le, length-drop, take-take}
 use Rattle.std.proofs.lemmas.Option.{none-some}
 use Rattle.std.specs.Prelude.{replicate}
 use Rattle.ckr_base.proofs.Sequences.{drop-front, take-front}
+use Rattle.ckr_base.proofs.Options.{option_or-none}
 use Rattle.ckr_cards.specs.declared.card.Card.{Card}
 use Rattle.ckr_cards.specs.declared.statement.Statement.{Statement}
 use Rattle.ckr_cards.specs.Card.{card_of, cards_of_lines, filled, stored_line, stored_lines, stored_card, stored_cards, cards_in_bytes}
@@ -20,7 +21,7 @@ use Rattle.ckr_jcl_decks.specs.Deck.{deck_of, stored_deck}
 use Rattle.ckr_jcl_decks.proofs.Refusals.{job_law}
 use Rattle.ckr_events.specs.declared.event.Event.TheVariants.{Submitted as SubmittedEvent}
 use Rattle.ckr_points_decks.specs.Cards.{with_short_mark, columns_of, stored_of_kept, kept_of_stored, kept_deck, job_in, IsSpelledDeck}
-use Rattle.ckr_points_decks.proofs.DeckTests.{map_none, or_none}
+use Rattle.ckr_points_decks.proofs.DeckTests.{map_none}
 
 -- ---- no card is of a longer line
 
@@ -55,7 +56,7 @@ no_fault seen s none = by_case (long_line s) refl
 statement_none : (s : Statement) → long_line s ≡ None → NoneLong (s.first ∷ s.more) × NoneLong s.records
 unfolding long_line
 statement_none s none =
-    let both = or_none (long_card (s.first ∷ s.more)) (long_card s.records) none in
+    let both = option_or-none (long_card (s.first ∷ s.more)) (long_card s.records) none in
     (long_none (s.first ∷ s.more) both.0, long_none s.records both.1)
 
 sound_none : (seen : MetFaults) (statements : List Statement) → AreSound seen statements → NoneLong (cards_in statements)

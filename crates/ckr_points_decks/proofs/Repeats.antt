@@ -4,6 +4,8 @@ use Rattle.std.proofs.lemmas.List.Folds.{list_any-append}
 use Rattle.std.specs.Prelude.{bytes_eq}
 use Rattle.std.specs.List.{AllByRecursion, cons_option, filter_map, list_any}
 use Rattle.std.proofs.lemmas.Bool.{and_from, not-true, or_parts}
+use Rattle.ckr_base.proofs.Sequences.{each-both}
+use Rattle.ckr_base.proofs.Options.{option_or-none}
 use Rattle.ckr_jcl.specs.declared.deck.Cond.{Cond}
 use Rattle.ckr_jcl.specs.declared.deck.Dd.{Dd}
 use Rattle.ckr_jcl.specs.declared.deck.Kind.{Kind}
@@ -22,7 +24,7 @@ use Rattle.ckr_points_library.specs.Holdings.{owned}
 use Rattle.ckr_points_decks.specs.DeckLimits.{HasNamesOnce}
 use Rattle.ckr_points_decks.proofs.Clashes.{if_none}
 use Rattle.ckr_points_decks.proofs.DistinctNames.{differ, names_differ, origin_own, origins_apart, stated_given}
-use Rattle.ckr_points_decks.proofs.DeckTests.{OfStep, all_both, or_none}
+use Rattle.ckr_points_decks.proofs.DeckTests.{OfStep}
 use Rattle.ckr_points_decks.proofs.Texts.{AreStated, IsStated}
 
 -- ---- each two of a list
@@ -48,14 +50,14 @@ stands_last dd dds test none = (or_parts (test dd) false (or_parts (list_any tes
 apart_behind : (dd : DdText) (before rest : List DdText) → StandsIn dd before → repeated_dd before rest ≡ None → AllByRecursion (AreApart dd) rest
 apart_behind dd before [] there none = tt
 apart_behind dd before (other ∷ rest) there none =
-    let both = or_none (if_holds (is_repeated_dd before other) other.card) (repeated_dd (before ++ other ∷ []) rest) none in
+    let both = option_or-none (if_holds (is_repeated_dd before other) other.card) (repeated_dd (before ++ other ∷ []) rest) none in
     let free = or_parts (list_any (has_dd_name other.name) before) (list_any (has_dsn other.dsn) before) (if_none (is_repeated_dd before other) other.card both.0) in
     (record { name = there (has_dd_name other.name) free.0; dsn = there (has_dsn other.dsn) free.1 }, apart_behind dd (before ++ other ∷ []) rest (stands_more dd other before there) both.1)
 
 pairs_apart : (before dds : List DdText) → repeated_dd before dds ≡ None → Pairs AreApart dds
 pairs_apart before [] none = tt
 pairs_apart before (dd ∷ rest) none =
-    let later = (or_none (if_holds (is_repeated_dd before dd) dd.card) (repeated_dd (before ++ dd ∷ []) rest) none).1 in
+    let later = (option_or-none (if_holds (is_repeated_dd before dd) dd.card) (repeated_dd (before ++ dd ∷ []) rest) none).1 in
     (apart_behind dd (before ++ dd ∷ []) rest (stands_last dd before) later, pairs_apart (before ++ dd ∷ []) rest later)
 
 -- ---- their names
@@ -95,7 +97,7 @@ pairs_differ : (root owner : ℕ) (step : Step) (tests : List Cond) (program : O
     → Pairs (Differ (name_of root (owned step owner tests))) dds
 pairs_differ root owner step tests program [] stated apart = tt
 pairs_differ root owner step tests program (dd ∷ rest) stated apart = (
-  all_both (IsStated program) (AreApart dd) (Differ (name_of root (owned step owner tests)) dd) rest
+  each-both (IsStated program) (AreApart dd) (Differ (name_of root (owned step owner tests)) dd) rest
       (λ other also free. apart_differ root owner step tests program dd other stated.0 also free) stated.1 apart.0,
   pairs_differ root owner step tests program rest stated.1 apart.1,
 )
@@ -109,8 +111,8 @@ step_once step stated none kind is root owner tests =
 each_alone : (before steps : List StepText) → repeated_in before steps ≡ None → AllByRecursion (λ step. repeated_dd [] step.dds ≡ None) steps
 each_alone before [] none = tt
 each_alone before (step ∷ rest) none =
-    let behind = (or_none (if_holds (list_any (has_step_name step.name) before) step.card) _ none).1 in
-    let both = or_none (repeated_dd [] step.dds) (repeated_in (before ++ step ∷ []) rest) behind in
+    let behind = (option_or-none (if_holds (list_any (has_step_name step.name) before) step.card) _ none).1 in
+    let both = option_or-none (repeated_dd [] step.dds) (repeated_in (before ++ step ∷ []) rest) behind in
     (both.0, each_alone (before ++ step ∷ []) rest both.1)
 
 pub none_repeated : (job : JobText) → repeated_name job ≡ None → AllByRecursion (λ step. repeated_dd [] step.dds ≡ None) job.steps

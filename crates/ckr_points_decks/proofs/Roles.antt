@@ -6,7 +6,7 @@ use Rattle.std.proofs.lemmas.Slice.Eq.{bytes_eq-Decides}
 use Rattle.std.specs.Prelude.{bytes_eq, codes, option_and_then}
 use Rattle.std.specs.List.{AllByRecursion, list_all, list_any}
 use Rattle.std.specs.Option.{is_some}
-use Rattle.ckr_base.proofs.Sequences.{each-implies}
+use Rattle.ckr_base.proofs.Sequences.{each-both, each-implies}
 use Rattle.ckr_cards.specs.Statement.{name_in}
 use Rattle.ckr_jcl.specs.declared.deck.After.TheVariants.{Keep}
 use Rattle.ckr_jcl.specs.declared.deck.Cond.{Cond}
@@ -40,7 +40,7 @@ use Rattle.ckr_points_library.specs.Holdings.{owned}
 use Rattle.ckr_points.specs.Payload.{allows, has_role, has_set, is_old, role_number}
 use Rattle.ckr_points_decks.proofs.Clashes.{sysout_new}
 use Rattle.ckr_points_decks.proofs.Origins.{dd_origin, origin-named, origin-sysout}
-use Rattle.ckr_points_decks.proofs.DeckTests.{NoneMeets, OfStep, all_both, all_pass}
+use Rattle.ckr_points_decks.proofs.DeckTests.{NoneMeets, OfStep, all_pass}
 use Rattle.ckr_points_decks.proofs.Texts.{AreStated, IsStated}
 
 -- ---- the role
@@ -214,11 +214,11 @@ unfolding step_with
 step_roled step judged kind is = record {
   roles =
       all_pass (has_role kind) dd_of step.dds
-      (all_both (IsStated step.program) (λ dd. breaks WrongUse dd ≡ false) (λ dd. has_role kind (dd_of dd) ≡ true) step.dds (λ dd stated used. role_right kind step.program dd is stated used) judged.stated judged.used);
+      (each-both (IsStated step.program) (λ dd. breaks WrongUse dd ≡ false) (λ dd. has_role kind (dd_of dd) ≡ true) step.dds (λ dd stated used. role_right kind step.program dd is stated used) judged.stated judged.used);
   sets = λ root owner tests.
       step_sets root owner tests kind step
-      (all_both (λ dd. (dd.role ≡ role_of kind dd.name) × (breaks WrongUse dd ≡ false)) (λ dd. breaks LeftOut dd ≡ false) (IsRight kind) step.dds (λ dd own known. record { role = own.0; used = own.1; known = known })
-      (all_both (IsStated step.program) (λ dd. breaks WrongUse dd ≡ false) (λ dd. (dd.role ≡ role_of kind dd.name) × (breaks WrongUse dd ≡ false)) step.dds (λ dd stated used. (dd_role kind step.program dd is stated, used)) judged.stated judged.used)
+      (each-both (λ dd. (dd.role ≡ role_of kind dd.name) × (breaks WrongUse dd ≡ false)) (λ dd. breaks LeftOut dd ≡ false) (IsRight kind) step.dds (λ dd own known. record { role = own.0; used = own.1; known = known })
+      (each-both (IsStated step.program) (λ dd. breaks WrongUse dd ≡ false) (λ dd. (dd.role ≡ role_of kind dd.name) × (breaks WrongUse dd ≡ false)) step.dds (λ dd stated used. (dd_role kind step.program dd is stated, used)) judged.stated judged.used)
       judged.known)
       (needed_updates kind step.program step is judged.needed);
 }

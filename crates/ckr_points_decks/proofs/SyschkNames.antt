@@ -3,7 +3,7 @@ use Rattle.std.proofs.Common.{◌≡◌, ℕ, Bool, true, false, ◌||◌, not, 
 use Rattle.std.proofs.lemmas.Bool.{not-false, not-true}
 use Rattle.std.specs.Option.{is_some, option_map}
 use Rattle.ckr_base.proofs.Bools.{and-first, and-second, or-first-false, or-second-false}
-use Rattle.ckr_base.proofs.Options.{some-not-none}
+use Rattle.ckr_base.proofs.Options.{option_or-none, some-not-none}
 use Rattle.ckr_jcl.specs.Text.{if_holds}
 use Rattle.ckr_jcl.specs.declared.deck.Job.{Job}
 use Rattle.ckr_jcl_decks.specs.Parts.DdFaults.{breaks, is_ill_formed, is_left_out_dd, is_library, is_referring_name, is_temporary}
@@ -15,7 +15,6 @@ use Rattle.ckr_jcl_decks.specs.Parts.JobText.{JobText}
 use Rattle.ckr_jcl_decks.specs.DeckFaults.{checkpoint_fault, dd_in_steps, dd_or_syschk, is_right_syschk, names_checkpoint, syschk_fault, syschk_where}
 use Rattle.ckr_jcl_decks.specs.Deck.{job_of, named_origin, stored_deck, syschk_of}
 use Rattle.ckr_points.specs.Syschk.{names_its_set}
-use Rattle.ckr_points_decks.proofs.DeckTests.{or_none}
 use Rattle.ckr_points_decks.proofs.Texts.{IsFaultless, IsReadFrom, read_from}
 use Rattle.ckr_uses.specs.Uses.{written_name}
 
@@ -69,8 +68,8 @@ text-named : (cards : ℕ) (text : JobText) → IsFaultless cards text → names
 unfolding checkpoint_fault dd_or_syschk
 text-named cards text faultless =
     syschk-named text.syschk (names_checkpoint text.restart) text.card faultless.checkpoint
-    (or_none (syschk_where (breaks LeftOut) text.syschk) (dd_in_steps (breaks LeftOut) text.steps) faultless.left_out).0
-    (or_none (syschk_where (breaks IllNamed) text.syschk) (dd_in_steps (breaks IllNamed) text.steps) faultless.ill_named).0
+    (option_or-none (syschk_where (breaks LeftOut) text.syschk) (dd_in_steps (breaks LeftOut) text.steps) faultless.left_out).0
+    (option_or-none (syschk_where (breaks IllNamed) text.syschk) (dd_in_steps (breaks IllNamed) text.steps) faultless.ill_named).0
 
 job-named : (job : Job) → IsReadFrom job → names_its_set job.syschk ≡ true
 unfolding job_of

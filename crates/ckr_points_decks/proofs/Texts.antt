@@ -7,13 +7,14 @@ use Rattle.ckr_cards.specs.Card.{cards_in_bytes}
 use Rattle.ckr_cards.specs.Statement.{is_dd, is_exec, name_in, statements_of}
 use Rattle.ckr_jcl.specs.declared.deck.Job.{Job}
 use Rattle.ckr_jcl.specs.declared.deck.Kind.{Kind}
+use Rattle.ckr_jcl_decks.proofs.LeastFault.{own_none, rows_none}
 use Rattle.ckr_jcl_decks.specs.Parts.DdRule.TheVariants.{IllNamed, LeftOut, WrongUse, WrongSpace, WrongRecords}
 use Rattle.ckr_jcl_decks.specs.Parts.DdText.{DdText}
 use Rattle.ckr_jcl_decks.specs.Parts.StepText.{StepText}
 use Rattle.ckr_jcl_decks.specs.Parts.JobText.{JobText}
 use Rattle.ckr_jcl_decks.specs.Parts.MetFaults.{MetFaults}
 use Rattle.ckr_jcl_decks.specs.Parts.Faults.{faults_of, nothing_seen, seen_behind}
-use Rattle.ckr_jcl_decks.specs.Least.{IsFaultAt, HasNone, AreSound, IsDeckJob}
+use Rattle.ckr_jcl_decks.specs.Least.{HasNone, AreSound, IsDeckJob}
 use Rattle.ckr_jcl_decks.specs.Parts.DeckText.{closed, current_step, dd_in, dd_text, deck_text, job_text, role_in, step_text, with_dd, with_statement, with_step}
 use Rattle.ckr_jcl_decks.specs.Parts.DdFaults.{breaks}
 use Rattle.ckr_jcl_decks.specs.DeckFaults.{checkpoint_fault, dd_in_steps, dd_or_syschk, deck_faults, faults_of_names, faults_of_uses, limit_fault, missing_dd, repeated_name}
@@ -94,13 +95,6 @@ pub record IsFaultless (cards : ℕ) (job : JobText) : Type 0 where
   pub spaces : dd_in_steps (breaks WrongSpace) job.steps ≡ None
   pub records : dd_in_steps (breaks WrongRecords) job.steps ≡ None
   pub limits : limit_fault cards job ≡ None
-
-pub own_none : (number : ℕ) (own : Option ℕ) (rows : List (ℕ × Option ℕ)) → HasNone ((number, own) ∷ rows) → own ≡ None
-own_none number None rows none = refl
-own_none number (Some card) rows none = absurd (none number card (IsFaultAt.here rows))
-
-pub rows_none : (row : ℕ × Option ℕ) (rows : List (ℕ × Option ℕ)) → HasNone (row ∷ rows) → HasNone rows
-rows_none row rows none number card stands = none number card (IsFaultAt.there row rows stands)
 
 faultless : (cards : ℕ) (job : JobText) → HasNone (deck_faults cards job) → IsFaultless cards job
 unfolding deck_faults faults_of_names faults_of_uses

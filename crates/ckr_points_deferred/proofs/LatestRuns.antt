@@ -12,7 +12,7 @@ use Rattle.std.proofs.lemmas.List.Elements.{filter-append}
 use Rattle.std.proofs.lemmas.Option.{same_Some, slice_get-map}
 use Rattle.ckr_base.proofs.Bools.{bool-cases}
 use Rattle.ckr_base.proofs.Options.{some-not-none}
-use Rattle.ckr_base.proofs.Sequences.{take-next}
+use Rattle.ckr_base.proofs.Sequences.{last-append, take-next}
 use Rattle.ckr_library.specs.NameMaps.{Name}
 use Rattle.ckr_points.specs.RuleCases.{selected_runs}
 use Rattle.ckr_points.specs.declared.run.Run.{Run}
@@ -21,10 +21,6 @@ use Rattle.ckr_points_tables.specs.RunRows.{IsRunRow}
 use Rattle.ckr_points_tables.specs.View.{line_of}
 use Rattle.ckr_points_deferred.specs.Latest.{is_selected_as, latest_before, selected_among}
 
-last-behind : {A : Type 0} (before : Option A) (items : List A) (item : A) → last_or before (items ++ item ∷ []) ≡ Some item
-last-behind before [] item = refl
-last-behind before (first ∷ items) item = last-behind (Some first) items item
-
 pub latest-next : (name : Name) (runs : List RunRow) (count : ℕ) (row : RunRow) → slice_get runs count ≡ Some row → latest_before name (suc count) runs ≡ cond (is_selected_as name row) (Some row) (latest_before name count runs)
 latest-next name runs count row at =
     ap (λ some. last_or None (selected_runs name some)) (take-next count runs row at)
@@ -32,7 +28,7 @@ latest-next name runs count row at =
     ∙ by (is_selected_as name row)
   where
     by : (b : Bool) → last_or None (selected_runs name (take count runs) ++ cond b (row ∷ []) []) ≡ cond b (Some row) (last_or None (selected_runs name (take count runs)))
-    by true = last-behind None (selected_runs name (take count runs)) row
+    by true = last-append None (selected_runs name (take count runs)) row
     by false = ap (last_or None) (append-nil (selected_runs name (take count runs)))
 
 pub selected-some : (name : Name) (runs : List RunRow) (count : ℕ) (row found : RunRow) → slice_get runs count ≡ Some row → Some found ≡ selected_among name (Some row) → Some found ≡ latest_before name (suc count) runs

@@ -7,9 +7,8 @@ use Rattle.std.proofs.Common.{◌≡◌, ◌≤◌, ◌<◌, ℕ, zero, suc, ◌
 use Rattle.std.specs.List.{position_from}
 use Rattle.std.specs.Option.{option_map_or}
 use Rattle.std.proofs.lemmas.Iterator.Adapters.{position_from-zero}
-use Rattle.std.proofs.lemmas.Option.{same_Some}
 use Rattle.ckr_base.proofs.Options.{some-not-none}
-use Rattle.ckr_base.proofs.Sequences.{get-inside}
+use Rattle.ckr_base.proofs.Sequences.{drop-get, get-inside}
 use Rattle.ckr_library.specs.NameMaps.{Name}
 use Rattle.ckr_meaning.specs.EffectiveJob.{Effective, OwnedStep, step_at}
 use Rattle.ckr_points_deferred.specs.Numbers.{has_step_name, number_from}
@@ -22,11 +21,6 @@ shifted test before at (item ∷ items) = by (test item) (shifted test before (a
         → option_map_or (λ place. suc (before + place)) (cond b (Some (at + 1)) (position_from test (at + 1 + 1) items)) 0 ≡ option_map_or (λ place. suc (suc before + place)) (cond b (Some at) (position_from test (at + 1) items)) 0
     by true more = omega arith
     by false more = more
-
-dropped : {A : Type 0} (items : List A) (place : ℕ) (item : A) → slice_get items place ≡ Some item → drop place items ≡ item ∷ drop (suc place) items
-dropped [] place item at = absurd (some-not-none item (sym at))
-dropped (first ∷ items) zero item at = ap (λ one. one ∷ items) (same_Some first item at)
-dropped (first ∷ items) (suc place) item at = dropped items place item at
 
 beyond : {A : Type 0} (items : List A) (place : ℕ) → slice_get items place ≡ None → drop place items ≡ []
 beyond [] zero at = refl
@@ -42,7 +36,7 @@ module _ (job : Effective) (name : Name) where
   placed before found = option_map_or (λ place. suc (before + place)) found 0
 
   from-here : (before : ℕ) (own : OwnedStep) → slice_get job.steps before ≡ Some own → number_from job name (suc before) ≡ placed before (cond (test own) (Some 0) (position_from test 1 (drop (suc before) job.steps)))
-  from-here before own at = ap (placed before) (position_from-zero test (drop before job.steps) ∙ ap (position_from test 0) (dropped job.steps before own at))
+  from-here before own at = ap (placed before) (position_from-zero test (drop before job.steps) ∙ ap (position_from test 0) (drop-get job.steps before own at))
 
   pub numbered-here : (number : ℕ) (own : OwnedStep) → step_at job number ≡ Some own → has_step_name name own ≡ true → number ≡ number_from job name number
   numbered-here zero own at is = absurd (some-not-none own (sym at))

@@ -50,10 +50,6 @@ pub all-same : {A : Type 0} (one other : A → Bool) (items : List A) → ((plac
 all-same one other [] same = refl
 all-same one other (item ∷ items) same = λ i. same zero item refl i && all-same one other items (λ place. same (suc place)) i
 
-pub all-alike : {A : Type 0} (one other : A → Bool) → ((item : A) → one item ≡ other item) → (items : List A) → list_all one items ≡ list_all other items
-all-alike one other same [] = refl
-all-alike one other same (item ∷ items) = λ i. same item i && all-alike one other same items i
-
 pub any-alike : {A : Type 0} (one other : A → Bool) → ((item : A) → one item ≡ other item) → (items : List A) → list_any one items ≡ list_any other items
 any-alike one other same [] = refl
 any-alike one other same (item ∷ items) = λ i. same item i || any-alike one other same items i

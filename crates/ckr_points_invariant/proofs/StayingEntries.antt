@@ -9,6 +9,7 @@ use Rattle.arrayvec.specs.ArrayVec.{ArrayVec}
 use Rattle.ckr_base.proofs.Bools.{and-first, and-second}
 use Rattle.ckr_base.proofs.Numbers.{nat_le-true}
 use Rattle.ckr_base.proofs.Options.{option-cases, some-one}
+use Rattle.ckr_base.proofs.Sequences.{find-filter}
 use Rattle.ckr_events.specs.declared.event.Event.{Event}
 use Rattle.ckr_events.specs.declared.event.Event.TheVariants.{Checkpointed, Ended, Held, Restarted, Rewritten, Selected, Started, StepEnded, Submitted}
 use Rattle.ckr_events.specs.declared.event.Ending.TheVariants.{Allocation, Coded, Completed}
@@ -41,7 +42,7 @@ use Rattle.ckr_points_invariant.proofs.Continuations.WrittenEntries.Marks.{kept-
 use Rattle.ckr_points_invariant.proofs.EventList.{office-behind, sound-behind}
 use Rattle.ckr_points_invariant.proofs.KeptEvents.{next-kept, prefix-kept}
 use Rattle.ckr_points_invariant.proofs.Readiness.Checkpoints.{checked_sets, entry as new_entry, keeps_entry}
-use Rattle.ckr_points_invariant.proofs.Readiness.Commits.{committed-keeps, find-kept, longer-ends}
+use Rattle.ckr_points_invariant.proofs.Readiness.Commits.{committed-keeps, longer-ends}
 use Rattle.ckr_points_invariant.proofs.Readiness.Rows.{changed-to}
 use Rattle.ckr_points_invariant.proofs.Readiness.Runs.{kept-entry}
 use Rattle.ckr_points_invariant.proofs.Start.Event.{running-so}
@@ -73,7 +74,7 @@ module _ (set id : Name) (entry : KeptEntry) (room : 1 ≤ entry.kept.bytes) whe
   through : GoesOnReduced Stays
   through = record {
     cut = λ name table most shorter its same ends.
-        find-kept (λ (one : KeptEntry). same_name one.kept.id id) (λ (one : KeptEntry). ends_within most one.kept) table.entries entry
+        find-filter (λ (one : KeptEntry). same_name one.kept.id id) (λ (one : KeptEntry). ends_within most one.kept) table.entries entry
         (its same (longer-ends most table.set.length entry shorter ends)) ends;
     marked = λ name table on its. its;
     stamped = λ name table stamp its. its;

@@ -1,6 +1,6 @@
 -- What a change of one data set leaves as it was.
-use Rattle.std.proofs.Common.{◌≡◌, true, false, not, cond, [], ◌∷◌, Option, Some, None, refl, ap, sym, ◌∙◌, subst, IsSomeAnd, Bor}
-use Rattle.std.specs.Option.{option_map, option_copied, is_some}
+use Rattle.std.proofs.Common.{◌≡◌, true, false, not, cond, [], ◌∷◌, Option, Some, None, refl, ap, sym, ◌∙◌, subst, IsSomeAnd}
+use Rattle.std.specs.Option.{option_map}
 use Rattle.std.specs.declared.cmp.Ordering.{Ordering}
 use Rattle.std.specs.declared.cmp.Ordering.TheVariants.{Less, Equal, Greater}
 use Rattle.std.specs.Ordering.{is_eq}
@@ -56,11 +56,6 @@ with_changed-twice {X = X} name first second named =
     by None e = refl
     by (Some x) e = with_entry-twice name (first x) (second (first x)) named
 
--- no data set is there
-pub none_there : {X Y : Type 0} (f : X → Y) (entry : Option X) → is_some (option_map f entry) ≡ false → entry ≡ None
-none_there f None none = refl
-none_there f (Some x) none = cc
-
 -- a data set that is changed is still there
 pub still_there : (name : Name) (change : Holding → Holding) (catalog : Catalog) (sets : Named Holding) → catalog.sets ≡ with_changed name change sets → IsSomeAnd (option_map (λ (h : Holding). h.set) (entry_at sets name)) (λ (set : DataSet). Unit {0}) → HasSet catalog name (λ (set : DataSet). Unit {0})
 still_there name change catalog sets changed there =
@@ -70,11 +65,6 @@ still_there name change catalog sets changed there =
     by : (entry : Option Holding) → IsSomeAnd (option_map (λ (h : Holding). h.set) entry) (λ (set : DataSet). Unit {0}) → IsSomeAnd (option_map (λ (h : Holding). h.set) (option_map change entry)) (λ (set : DataSet). Unit {0})
     by None there = there
     by (Some holding) there = there
-
--- whether an item is lent or copied, it is there
-pub copied_some : {A : Type 0} (item : Option (Bor A)) → is_some (option_copied item) ≡ is_some item
-copied_some None = refl
-copied_some (Some one) = refl
 
 -- ---- a data set that is put in and taken out again
 

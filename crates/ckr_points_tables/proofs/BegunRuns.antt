@@ -3,7 +3,7 @@ use Rattle.std.proofs.Common.{◌≡◌, ℕ, zero, suc, ◌≤◌, ◌<◌, ◌
 use Rattle.std.specs.List.{list_all}
 use Rattle.ckr_points.specs.declared.run.Run.{Run}
 use Rattle.ckr_points.specs.declared.run.RunState.TheVariants.{Queued}
-use Rattle.ckr_points_tables.specs.BegunRuns.{AreEnded, AreWaiting, has_ended}
+use Rattle.ckr_points_tables.specs.BegunRuns.{AreEnded, AreWaiting, is_over}
 
 pub ended-length : (count : ℕ) (lines : List Run) → AreEnded count lines → count ≤ length lines
 ended-length zero lines are = omega arith
@@ -36,14 +36,14 @@ ended-append (suc count) [] more are = absurd are
 ended-append (suc count) (line ∷ lines) more are = (are.0, ended-append count lines more are.1)
 
 -- with the next one, where that has ended too
-pub ended-next : (count : ℕ) (lines : List Run) (other : Run) → count < length lines → has_ended (slice_index_or lines count other).state ≡ true → AreEnded count lines → AreEnded (suc count) lines
+pub ended-next : (count : ℕ) (lines : List Run) (other : Run) → count < length lines → is_over (slice_index_or lines count other).state ≡ true → AreEnded count lines → AreEnded (suc count) lines
 ended-next zero [] other inside ended are = absurd (omega (arith, inside))
 ended-next zero (line ∷ lines) other inside ended are = (ended, tt)
 ended-next (suc count) [] other inside ended are = absurd are
 ended-next (suc count) (line ∷ lines) other inside ended are = (are.0, ended-next count lines other (omega (arith, inside)) ended are.1)
 
 -- a test that each ended run passes is passed by all where those behind pass it
-pub ended-drop : (count : ℕ) (lines : List Run) → AreEnded count lines → (test : Run → Bool) → ((line : Run) → has_ended line.state ≡ true → test line ≡ true) → list_all test (drop count lines) ≡ list_all test lines
+pub ended-drop : (count : ℕ) (lines : List Run) → AreEnded count lines → (test : Run → Bool) → ((line : Run) → is_over line.state ≡ true → test line ≡ true) → list_all test (drop count lines) ≡ list_all test lines
 ended-drop zero lines are test passes = refl
 ended-drop (suc count) [] are test passes = absurd are
 ended-drop (suc count) (line ∷ lines) are test passes = ended-drop count lines are.1 test passes ∙ ap (λ passed. passed && list_all test lines) (sym (passes line are.0))
@@ -91,7 +91,7 @@ waiting-take zero (line ∷ lines) are test passes = waiting-take zero lines are
 waiting-take (suc count) (line ∷ lines) are test passes = ap (λ passed. test line && passed) (waiting-take count lines are test passes)
 
 -- a test that each ended run passes and each that waits is passed by all where those between pass it
-pub between-all : (ended changed : ℕ) (lines : List Run) → AreEnded ended lines → AreWaiting changed lines → (test : Run → Bool) → ((line : Run) → has_ended line.state ≡ true → test line ≡ true) → ((line : Run) → line.state ≡ Queued → test line ≡ true)
+pub between-all : (ended changed : ℕ) (lines : List Run) → AreEnded ended lines → AreWaiting changed lines → (test : Run → Bool) → ((line : Run) → is_over line.state ≡ true → test line ≡ true) → ((line : Run) → line.state ≡ Queued → test line ≡ true)
     → list_all test (take (changed - ended) (drop ended lines)) ≡ list_all test lines
 between-all ended changed lines are wait test passes passes_too =
     waiting-take (changed - ended) (drop ended lines) (waiting-drop ended changed (changed - ended) lines refl wait) test passes_too

@@ -2,7 +2,7 @@
 use Rattle.std.proofs.Common.{◌≡◌, ℕ, suc, ◌-◌, ◌<◌, ◌≤◌, true, IsTrue, List, [], length, map, slice_get, slice_set, slice_index_or, vec_len, vec_capacity, Bool, ap, sym, ◌∙◌, subst, arith, Some, None, Option}
 use Rattle.std.proofs.lemmas.Option.{same_Some}
 use Rattle.std.proofs.lemmas.List.{get_or-set_same}
-use Rattle.ckr_base.proofs.Sequences.{get-from}
+use Rattle.ckr_base.proofs.Sequences.{get-from, get-there}
 use Rattle.ckr_events.specs.Jobs.{job_of}
 use Rattle.ckr_events.specs.declared.event.Event.{Event}
 use Rattle.ckr_entry.specs.declared.point.Mark.{Mark}
@@ -25,7 +25,6 @@ use Rattle.ckr_points_tables.specs.RunJobs.{IsFitting, effective}
 use Rattle.ckr_points_tables.specs.View.{RoomyTables, facts_of, rows_of, seen_under, table_in, written_of}
 use Rattle.ckr_points_tables.proofs.Events.{placed_at, run_fits, may_change, desk_after, kept_after}
 use Rattle.ckr_points_tables.proofs.MadeNames.{has-flags}
-use Rattle.ckr_points_tables.proofs.RunMoves.{item_there}
 use Rattle.ckr_points_tables.proofs.Runs.{length-rows, runs-at}
 
 -- what is read twice at a place is the same
@@ -65,7 +64,7 @@ module _ (a : Inside) (self : RoomyTables) (view : tables_seen a ≡ self) (kept
   pub job_ok : (table : RunTable) → table ≡ slice_index_or a.tables.items (number - 1) table → IsFitting (effective number table.job)
   job_ok table read =
       let tabled = get-from a.tables.items (number - 1) table inside_tables read in
-      let lined = item_there a.lines.items (number - 1) inside_lines in
+      let lined = get-there a.lines.items (number - 1) inside_lines in
       subst (λ n. IsFitting (effective n table.job)) (omega (arith, from_1)) (runs-at 1 a.lines.items a.tables.items kept.runs (number - 1) lined.0 table lined.1 tabled).fits
 
   module _ (line : Run) (table : RunTable) (entries : Roomy WrittenEntry) (line_read : line ≡ slice_index_or a.lines.items (number - 1) line) (table_read : table ≡ slice_index_or a.tables.items (number - 1) table) (entries_read : entries ≡ slice_index_or a.writings.items (number - 1) entries) where

@@ -6,7 +6,7 @@ use Rattle.std.proofs.lemmas.Bool.{false≢true}
 use Rattle.std.proofs.lemmas.Option.{same_Some, slice_get-map, slice_get_within}
 use Rattle.ckr_base.proofs.Bools.{and-first, and-second}
 use Rattle.ckr_base.proofs.Options.{some-not-none}
-use Rattle.ckr_base.proofs.Sequences.{get-from}
+use Rattle.ckr_base.proofs.Sequences.{get-from, get-there}
 use Rattle.ckr_entry.specs.declared.point.Mark.{Mark}
 use Rattle.ckr_events.specs.declared.event.Event.TheVariants.{Selected}
 use Rattle.ckr_jcl.specs.declared.deck.Job.{Job}
@@ -39,7 +39,7 @@ use Rattle.ckr_points_tables.proofs.Events.{none_on}
 use Rattle.ckr_points_tables.proofs.PutBack.{cut-back-filled, cut-back-wide}
 use Rattle.ckr_points_tables.proofs.RunChanges.{run-in}
 use Rattle.ckr_points_tables.proofs.RunJobs.{continued-step}
-use Rattle.ckr_points_tables.proofs.RunMoves.{IsPlaced, desk_replaced, is_run, item_there, kept_replaced, number_is, of_run-row, placed_so, run_fits, run_found}
+use Rattle.ckr_points_tables.proofs.RunMoves.{IsPlaced, desk_replaced, is_run, kept_replaced, number_is, of_run-row, placed_so, run_fits, run_found}
 use Rattle.ckr_points_tables.proofs.Runs.{length-rows, rows-at}
 use Rattle.ckr_points_tables.proofs.Initiators.{index_changed}
 use Rattle.ckr_points_tables.proofs.SelectionRooms.{prepared-seen}
@@ -156,10 +156,10 @@ module _ (a : Inside) (self : RoomyTables) (view : tables_seen a ≡ self) (kept
 
   -- the run's line and table, however often they are read
   pub own_line : (line : Run) × (slice_get lines (job - 1) ≡ Some line)
-  own_line = item_there lines (job - 1) continued_placed.lined
+  own_line = get-there lines (job - 1) continued_placed.lined
 
   pub own_table : (table : RunTable) × (slice_get tables (job - 1) ≡ Some table)
-  own_table = item_there tables (job - 1) continued_placed.tabled
+  own_table = get-there tables (job - 1) continued_placed.tabled
 
   pub line_read : (line : Run) → line ≡ slice_index_or lines (job - 1) line → line ≡ own_line.0
   line_read line read = same_Some line own_line.0 (sym (get-from lines (job - 1) line continued_placed.lined read) ∙ own_line.1)
@@ -233,7 +233,7 @@ module _ (a : Inside) (self : RoomyTables) (view : tables_seen a ≡ self) (kept
         by None is on = some-not-none _ (sym on)
         by (Some l) is on =
             let long = length-rows 1 lines tables kept.runs in
-            let there = item_there tables k (omega (arith, long.0, slice_get_within lines k l is)) in
+            let there = get-there tables k (omega (arith, long.0, slice_get_within lines k l is)) in
             none_on desk.runs initiator (and-second _ (list_all (λ (one : RunRow). not (option_eq nat_eq one.initiator (Some initiator))) desk.runs) free) k (row_of l there.0) (rows-at lines tables k l there.0 is there.1) on
 
     module _ (next : RunTable) (spare : a.spare.next ≡ Some next) where
@@ -251,7 +251,7 @@ module _ (a : Inside) (self : RoomyTables) (view : tables_seen a ≡ self) (kept
         other_tabled = get-from tables before prior earlier_inside prior_read
 
         pub other_line : (other : Run) × (slice_get lines before ≡ Some other)
-        other_line = item_there lines before (omega (arith, earlier_inside, (length-rows 1 lines tables kept.runs).0))
+        other_line = get-there lines before (omega (arith, earlier_inside, (length-rows 1 lines tables kept.runs).0))
 
         abbrev other : Run
         other = other_line.0

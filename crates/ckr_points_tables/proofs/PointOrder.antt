@@ -6,6 +6,7 @@ use Rattle.std.proofs.lemmas.Bool.Decides.{nat_tests}
 use Rattle.std.proofs.lemmas.Option.{slice_get_within}
 use Rattle.ckr_base.proofs.Bools.{and-first, and-second}
 use Rattle.ckr_base.proofs.Sequences.{get-from}
+use Rattle.ckr_base.proofs.Numbers.{nat_eq-true}
 use Rattle.ckr_library.specs.Places.{lead}
 use Rattle.ckr_points.specs.Marks.{point_at, with_point}
 use Rattle.ckr_points.specs.Restart.{point_restarted}
@@ -18,9 +19,6 @@ use Rattle.ckr_points_tables.proofs.Starts.Points.{put_same}
 
 lower : (a b c : ℕ) → nat_lt a b ≡ true → nat_lt b c ≡ true → nat_lt a c ≡ true
 lower a b c e f = grind (arith, nat_tests)
-
-alike : (a b : ℕ) → nat_eq a b ≡ true → a ≡ b
-alike a b e = grind (arith, nat_tests)
 
 higher : (a b : ℕ) → nat_eq a b ≡ false → nat_lt a b ≡ false → nat_lt b a ≡ true
 higher a b e f = grind (arith, nat_tests)
@@ -54,7 +52,7 @@ order-with_point point (first ∷ rest) order =
     by (point.step == first.step) (nat_lt point.step first.step) refl refl (order-with_point point rest (and-second (is_below first.step rest) _ order))
   where
     by : (same low : Bool) → (point.step == first.step) ≡ same → nat_lt point.step first.step ≡ low → are_in_order (with_point point rest) ≡ true → are_in_order (cond same (point ∷ rest) (cond low (point ∷ first ∷ rest) (first ∷ with_point point rest))) ≡ true
-    by true low e f more = and_from (is_below point.step rest) _ (ap (λ n. is_below n rest) (alike point.step first.step e) ∙ and-first (is_below first.step rest) _ order) (and-second (is_below first.step rest) _ order)
+    by true low e f more = and_from (is_below point.step rest) _ (ap (λ n. is_below n rest) (nat_eq-true point.step first.step e) ∙ and-first (is_below first.step rest) _ order) (and-second (is_below first.step rest) _ order)
     by false true e f more =
         and_from (is_below point.step (first ∷ rest)) _
         (and_from (nat_lt point.step first.step) _ f (below-lower point.step first.step rest f (and-first (is_below first.step rest) _ order))) order
@@ -131,6 +129,6 @@ module _ (step : ℕ) (items : List StepPoint) (order : are_in_order (map point_
     -- a restart at it
     pub point-restarted : (new : StepPoint) → point_of new ≡ point_restarted (point_of old) → map point_of (slice_set items place new) ≡ with_point (point_restarted (point_of old)) (map point_of items)
     point-restarted new same =
-        let new_step : new.step ≡ step = ap (λ (point : StartPoint). point.step) same ∙ alike old.step step (ap (has_step step) (sym there) ∙ has) in
+        let new_step : new.step ≡ step = ap (λ (point : StartPoint). point.step) same ∙ nat_eq-true old.step step (ap (has_step step) (sym there) ∙ has) in
         put_same new items place (first ∙ ap (λ n. lead (λ (point : StepPoint). nat_lt point.step n) items) (sym new_step)) (ap (λ n. has_step n (slice_get items place)) new_step ∙ has)
         ∙ ap (λ point. with_point point (map point_of items)) same

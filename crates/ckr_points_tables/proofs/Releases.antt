@@ -2,7 +2,7 @@
 use Rattle.std.proofs.Common.{◌≡◌, ℕ, ◌-◌, map, slice_get, slice_set, slice_index_or, refl, ap, sym, ◌∙◌, subst, Some, None, Option}
 use Rattle.std.specs.Option.{option_map_or}
 use Rattle.std.proofs.lemmas.Bool.{false≢true}
-use Rattle.ckr_base.proofs.Sequences.{get-from, set-same}
+use Rattle.ckr_base.proofs.Sequences.{get-from, get-there, set-same}
 use Rattle.ckr_events.specs.declared.event.Event.TheVariants.{Released}
 use Rattle.ckr_jcl.specs.declared.deck.Job.{Job}
 use Rattle.ckr_points.specs.declared.run.Run.{Run}
@@ -17,7 +17,7 @@ use Rattle.ckr_points_tables.specs.Parts.{tables_seen, IsKept}
 use Rattle.ckr_points_tables.specs.Release.{released_line}
 use Rattle.ckr_points_tables.specs.RunChange.{going}
 use Rattle.ckr_points_tables.specs.View.{RoomyTables, facts_of, rows_of, seen_under, table_in, written_of}
-use Rattle.ckr_points_tables.proofs.RunMoves.{IsPlaced, StaysRun, desk_moved, index_stays, item_there, kept_moved, placed_so, run_there}
+use Rattle.ckr_points_tables.proofs.RunMoves.{IsPlaced, StaysRun, desk_moved, index_stays, kept_moved, placed_so, run_there}
 
 module _ (a : Inside) (self : RoomyTables) (view : tables_seen a ≡ self) (kept : IsKept a) (job : ℕ) (may : MayFollow self.desk (Released job) None) where
   pub placed : IsPlaced job a.lines.items a.tables.items
@@ -28,7 +28,7 @@ module _ (a : Inside) (self : RoomyTables) (view : tables_seen a ≡ self) (kept
     lined = get-from a.lines.items (job - 1) line placed.lined read
 
     there : (table : RunTable) × (slice_get a.tables.items (job - 1) ≡ Some table)
-    there = item_there a.tables.items (job - 1) placed.tabled
+    there = get-there a.tables.items (job - 1) placed.tabled
 
     stays : StaysRun (going line (facts_of there.0) a.library.sets) (going (released_line line) (facts_of there.0) a.library.sets)
     stays = record { number = refl; name = refl; job = refl; free = λ e. absurd (false≢true e) }

@@ -11,6 +11,7 @@ use Rattle.ckr_base.proofs.Numbers.{nat_le-true}
 use Rattle.ckr_base.proofs.Options.{some-not-none}
 use Rattle.ckr_meaning.specs.EffectiveJob.{Effective, OwnedStep, names_of, names_of_steps, owned_by, step_at}
 use Rattle.std.proofs.lemmas.List.Sums.{sum_by-cons}
+use Rattle.ckr_base.proofs.Sequences.{all-get, drop-get, get-there}
 use Rattle.ckr_library.specs.NameMaps.{Name}
 use Rattle.ckr_jcl.specs.declared.deck.Job.{Job}
 use Rattle.ckr_points.specs.Restart.{spliced}
@@ -122,15 +123,10 @@ step-fits own fits =
       serials = and-second (nat_le (length own.step.dds) 16) _ dds;
     }
 
-each-at : {A : Type 0} (all : A → Bool) (items : List A) (place : ℕ) (one : A) → list_all all items ≡ true → slice_get items place ≡ Some one → all one ≡ true
-each-at all [] place one each there = absurd (some-not-none _ (sym there))
-each-at all (first ∷ items) zero one each there = ap all (sym (same_Some first one there)) ∙ and-first (all first) _ each
-each-at all (first ∷ items) (suc place) one each there = each-at all items place one (and-second (all first) _ each) there
-
 -- what holds of each step of a job holds of one
 pub step-all : (all : OwnedStep → Bool) (job : Effective) (number : ℕ) (own : OwnedStep) → list_all all job.steps ≡ true → step_at job number ≡ Some own → all own ≡ true
 step-all all job zero own each there = absurd (some-not-none own (sym there))
-step-all all job (suc place) own each there = each-at all job.steps place own each there
+step-all all job (suc place) own each there = all-get all job.steps place own each there
 
 pub fits-at : (job : Effective) → IsFitting job → (number : ℕ) (own : OwnedStep) → step_at job number ≡ Some own → IsFittingStep own
 fits-at job fits number own there = step-fits own (step-all is_fitting_step job number own fits.steps there)
@@ -138,7 +134,7 @@ fits-at job fits number own there = step-fits own (step-all is_fitting_step job 
 -- so does one that the code finds
 pub found-fits : (job : Effective) (place : ℕ) (found : Option OwnStep) → option_map own_of found ≡ slice_get job.steps place → IsFitting job → IfSome found (λ own. IsFittingStep (own_of own))
 found-fits job place None there fits = tt
-found-fits job place (Some own) there fits = step-fits (own_of own) (each-at is_fitting_step job.steps place (own_of own) fits.steps (sym there))
+found-fits job place (Some own) there fits = step-fits (own_of own) (all-get is_fitting_step job.steps place (own_of own) fits.steps (sym there))
 
 -- ---- a step by its number
 
@@ -174,18 +170,8 @@ low-step job fits (suc place) there =
 
 -- ---- steps from a place on
 
-pub inside-get : {A : Type 0} (items : List A) (place : ℕ) → place < length items → (one : A) × (slice_get items place ≡ Some one)
-inside-get [] place inside = absurd (omega (arith, inside))
-inside-get (one ∷ items) zero inside = (one, refl)
-inside-get (one ∷ items) (suc place) inside = inside-get items place (omega (arith, inside))
-
-drop-at : {A : Type 0} (items : List A) (place : ℕ) (one : A) → slice_get items place ≡ Some one → drop place items ≡ one ∷ drop (suc place) items
-drop-at [] place one there = absurd (some-not-none _ (sym there))
-drop-at (first ∷ items) zero one there = ap (λ x. x ∷ items) (same_Some first one there)
-drop-at (first ∷ items) (suc place) one there = drop-at items place one there
-
 drop-next : {A : Type 0} (items : List A) (place next : ℕ) (one : A) → slice_get items place ≡ Some one → next ≡ place + 1 → drop place items ≡ one ∷ drop next items
-drop-next items place next one there is = drop-at items place one there ∙ ap (λ k. one ∷ drop k items) (sym (add-one place) ∙ sym is)
+drop-next items place next one there is = drop-get items place one there ∙ ap (λ k. one ∷ drop k items) (sym (add-one place) ∙ sym is)
 
 take-get : {A : Type 0} (items : List A) (count place : ℕ) → place < count → slice_get (take count items) place ≡ slice_get items place
 take-get items zero place inside = absurd (omega (arith, inside))
@@ -196,7 +182,7 @@ take-get (one ∷ items) (suc count) (suc place) inside = take-get items count p
 -- the names of the steps from a place on
 pub names-next : (root : ℕ) (steps : List OwnedStep) (place next : ℕ) → place < length steps → next ≡ place + 1 → names_of_steps root (drop place steps) ≡ names_in root (slice_get steps place) ++ names_of_steps root (drop next steps)
 names-next root steps place next inside is =
-    let there = inside-get steps place inside in
+    let there = get-there steps place inside in
     ap (names_of_steps root) (drop-next steps place next there.0 there.1 is) ∙ ap (λ found. names_in root found ++ names_of_steps root (drop next steps)) (sym there.1)
 
 names-from : (root : ℕ) (steps : List OwnedStep) (place : ℕ) → length (names_of_steps root (drop place steps)) ≤ length (names_of_steps root steps)
@@ -212,7 +198,7 @@ names-here root steps place next inside is =
 -- the DDs of the steps from a place on
 pub dds-next : (steps : List OwnedStep) (place next : ℕ) → place < length steps → next ≡ place + 1 → dds_of (drop place steps) ≡ option_map_or (λ (own : OwnedStep). length own.step.dds) (slice_get steps place) 0 + dds_of (drop next steps)
 dds-next steps place next inside is =
-    let there = inside-get steps place inside in
+    let there = get-there steps place inside in
     ap dds_of (drop-next steps place next there.0 there.1 is)
     ∙ sum_by-cons (λ (own : OwnedStep). length own.step.dds) there.0 (drop next steps)
     ∙ ap (λ found. option_map_or (λ (own : OwnedStep). length own.step.dds) found 0 + dds_of (drop next steps)) (sym there.1)
@@ -221,7 +207,7 @@ dds-next steps place next inside is =
 pub made-next : (points : RunPoints) (root : ℕ) (name : Name) (steps : List OwnedStep) (count place next number : ℕ) → place < count → place < length steps → next ≡ place + 1
     → made_in points root number (drop place (take count steps)) name ≡ (option_map_or (made_by points root number name) (slice_get steps place) false || made_in points root (suc number) (drop next (take count steps)) name)
 made-next points root name steps count place next number first inside is =
-    let there = inside-get steps place inside in
+    let there = get-there steps place inside in
     ap (λ some. made_in points root number some name) (drop-next (take count steps) place next there.0 (take-get steps count place first ∙ there.1) is)
     ∙ ap (λ found. option_map_or (made_by points root number name) found false || made_in points root (suc number) (drop next (take count steps)) name) (sym there.1)
 
@@ -237,12 +223,6 @@ take-far (one ∷ items) zero (suc count) within far = absurd (omega (arith, far
 take-far items (suc place) zero within far = absurd (omega (arith, within))
 take-far [] (suc place) (suc count) within far = refl
 take-far (one ∷ items) (suc place) (suc count) within far = ap (λ rest. one ∷ rest) (take-far items place count (omega (arith, within)) (λ less. omega (arith, far (omega (arith, less)))))
-
--- there is a step at each place before the end
-pub inside-some : {A : Type 0} (items : List A) (place : ℕ) → place < length items → IsSome (slice_get items place)
-inside-some [] place inside = absurd (omega (arith, inside))
-inside-some (one ∷ items) zero inside = refl
-inside-some (one ∷ items) (suc place) inside = inside-some items place (omega (arith, inside))
 
 -- a step of a continued job
 pub spliced-is : (number run step : ℕ) (deck : Job) (earlier : JobView) (own : OwnedStep) → step_at (effective number earlier) step ≡ Some own → spliced (effective number earlier) step run deck ≡ effective run (continued_view number deck earlier step)

@@ -44,12 +44,6 @@ of_run-placed tables (suc place) test e = by (slice_get tables.runs place) refl 
     by None is e = absurd (false≢true e)
     by (Some row) is e = (omega arith, slice_get_within tables.runs place row is)
 
--- an item at each place
-pub item_there : {A : Type 0} (items : List A) (place : ℕ) → place < length items → (item : A) × (slice_get items place ≡ Some item)
-item_there [] place inside = absurd (omega (arith, inside))
-item_there (item ∷ items) zero inside = (item, refl)
-item_there (item ∷ items) (suc place) inside = item_there items place (omega (arith, inside))
-
 -- the place of a run of which a test is true
 pub record IsPlaced (job : ℕ) (lines : List Run) (tables : List RunTable) : Type 0 where
   pub first : 1 ≤ job

@@ -7,7 +7,7 @@ use Rattle.ckr_points_library.specs.Holdings.{owned}
 use Rattle.ckr_uses.specs.Uses.{are_distinct}
 use Rattle.ckr_events.specs.Jobs.{job_of}
 use Rattle.ckr_events.specs.declared.event.Event.{Event}
-use Rattle.ckr_events.specs.declared.event.Event.TheVariants.{Submitted, Selected, Denied, Started, Rewritten, Checkpointed, Cancelled, StepEnded, Restarted, Ended, Purged}
+use Rattle.ckr_events.specs.declared.event.Event.TheVariants.{Submitted, Selected, Started, Rewritten, Checkpointed, StepEnded, Restarted, Held, Released, Ended}
 use Rattle.ckr_jcl.specs.declared.deck.Job.{Job}
 use Rattle.ckr_jcl.specs.declared.deck.Step.{Step}
 use Rattle.ckr_entry.specs.declared.point.Mark.{Mark}
@@ -98,16 +98,12 @@ is_submission _ = false
 
 -- the events that bring a run further with the job that it has, or end it: no submission, hold, release or restart, and no selection of a run that continues another one
 abbrev pub is_run_change : Event → Bool
+is_run_change (Submitted job cards) = false
 is_run_change (Selected job initiator earlier step id) = earlier == 0
-is_run_change (Denied job rule name) = true
-is_run_change (Started job step made) = true
-is_run_change (Rewritten job taken writes lengths place image) = true
-is_run_change (Checkpointed job id taken writes lengths place bytes) = true
-is_run_change (Cancelled job) = true
-is_run_change (StepEnded job step rc writes lengths) = true
-is_run_change (Ended job ending) = true
-is_run_change (Purged job) = true
-is_run_change _ = false
+is_run_change (Restarted job initiator code checkpoint) = false
+is_run_change (Held job code writes lengths) = false
+is_run_change (Released job) = false
+is_run_change _ = true
 
 -- the event follows, in some layout
 abbrev pub MayFollow : TablesModel → Event → Option Job → Type 0

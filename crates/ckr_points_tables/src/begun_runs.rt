@@ -1,12 +1,12 @@
 //! The runs that have begun: those behind the first ones, which have all ended, and before the last ones, which wait.
 ghost use Rattle.std.specs.Prelude.{◌≡◌, ◌≤◌, ◌-◌, drop, length, take};
-ghost use Rattle.ckr_points_tables.specs.BegunRuns.{has_ended, AreEnded};
+ghost use Rattle.ckr_points_tables.specs.BegunRuns.{is_over, AreEnded};
 
 use ckr_points::{Run, RunState};
 
 /// Whether a run has ended.
-fn has_ended(state: RunState) -> bool
-    ensures { result ≡ has_ended state }
+fn is_over(state: RunState) -> bool
+    ensures { result ≡ is_over state }
 {
     matches!(state, RunState::Ended | RunState::Denied | RunState::Purged)
 }
@@ -17,7 +17,7 @@ pub(crate) fn count_ended(lines: &[Run], least: usize) -> usize
     ensures { AreEnded result lines.now }
 {
     for place in least..lines.len() {
-        if !has_ended(lines[place].state) {
+        if !is_over(lines[place].state) {
             return place;
         }
     }

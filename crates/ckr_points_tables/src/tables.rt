@@ -6,7 +6,7 @@ ghost use Rattle.ckr_library.specs.NameMaps.{EachEntry};
 ghost use Rattle.ckr_points.specs.Rows.{no_tables, run_of, holding_of, RunRow, TableSet};
 ghost use Rattle.ckr_points.specs.declared.run.Run.{Run as LineOfRun};
 ghost use Rattle.ckr_points.specs.declared.run.RunState.TheVariants.{Queued as QueuedRun};
-ghost use Rattle.ckr_points_tables.specs.BegunRuns.{has_ended, AreEnded, AreWaiting};
+ghost use Rattle.ckr_points_tables.specs.BegunRuns.{is_over, AreEnded, AreWaiting};
 ghost use Rattle.ckr_points_tables.specs.RunRows.{IsRunRow};
 ghost use Rattle.ckr_points_tables.specs.View.{facts_in, facts_of, line_of, place_of, run_on, seen_by};
 
@@ -105,7 +105,7 @@ impl Tables {
     /// submitted. A test that each ended run passes and each that waits in the queue is passed by all of these exactly where all runs pass
     /// it, so that no such test looks at the runs that ended long ago, or at a long queue.
     pub fn begun(&self) -> &[Run]
-        ensures tests { (test : LineOfRun → Bool) → ((line : LineOfRun) → has_ended line.state ≡ true → test line ≡ true) → ((line : LineOfRun) → line.state ≡ QueuedRun → test line ≡ true)
+        ensures tests { (test : LineOfRun → Bool) → ((line : LineOfRun) → is_over line.state ≡ true → test line ≡ true) → ((line : LineOfRun) → line.state ≡ QueuedRun → test line ≡ true)
             → list_all test result.now ≡ list_all test (map line_of self.now.desk.runs) }
         ensures between { (ended : ℕ) × (changed : ℕ) × AreEnded ended (map line_of self.now.desk.runs) × AreWaiting changed (map line_of self.now.desk.runs)
             × (result.now ≡ take (changed - ended) (drop ended (map line_of self.now.desk.runs))) }

@@ -5,6 +5,7 @@ use Rattle.std.proofs.lemmas.List.{length-append}
 use Rattle.std.specs.Prelude.{MatchResult, IsOkAnd, IsErr}
 use Rattle.std.specs.Str.Lines.{lines}
 use Rattle.std.specs.Io.KnownBytes.{Consumes, IsAtEnd}
+use Rattle.ckr_base.proofs.Numbers.{nat_lt-beyond}
 use Rattle.ckr_outside.specs.Faults.{Rose}
 use Rattle.ckr_desk.specs.Model.Layout.{Layout}
 use Rattle.ckr_desk_format.specs.declared.command.FormatOutcome.{FormatOutcome}
@@ -20,9 +21,6 @@ use Rattle.ckr_service.specs.MadeStream.{made_cards, made_size}
 -- all that was there to be read
 pub all_read : (whole : List ℕ) (rest : List ℕ) (all : List ℕ) → Consumes (Some whole) (Some rest) all → IsAtEnd (Some rest) → all ≡ whole
 all_read whole rest all given end = sym (append-nil all) ∙ ap (λ (r : List ℕ). all ++ r) (sym end) ∙ sym given
-
-below : (size need : ℕ) → need ≤ size → nat_lt size need ≡ false
-below size need enough = grind (arith, enough)
 
 -- what the cards say, the sizes aside
 made_said : Said
@@ -42,8 +40,8 @@ all_said = refl
 pub installed : (size : ℕ) → made_size ≤ size → installation_of (lines made_cards) size ≡ Ok made_layout
 unfolding installation_of made_layout made_said
 installed size enough =
-    let book : nat_lt size 33554944 ≡ false = below size 33554944 (omega (arith, enough)) in
-    let volume : nat_lt size 50332160 ≡ false = below size 50332160 enough in
+    let book : nat_lt size 33554944 ≡ false = nat_lt-beyond size 33554944 (omega (arith, enough)) in
+    let volume : nat_lt size 50332160 ≡ false = nat_lt-beyond size 50332160 enough in
     ap (by_said size) all_said
     ∙ ap (λ (b : Bool). by_sizes made_said (cond b (Some 3) (cond (nat_lt size 50332160) (Some 4) None))) book
     ∙ ap (λ (b : Bool). by_sizes made_said (cond b (Some 4) None)) volume

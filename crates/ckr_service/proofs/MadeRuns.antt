@@ -176,11 +176,7 @@ module _ {D : Type 0} (told : Type 0) (content : D → List ℕ) (may_leave : D 
       by_outcome : (outcome : FormatOutcome) → status ≡ formatting_status outcome → FailsSo told content may_leave moment left_since size faults outcome old new → ⊥
       by_outcome Outcomes.DiskFailed is so = never 5 is
       by_outcome Outcomes.NoMemory is so = never 6 is
-      by_outcome Outcomes.Formatted is so = so
-      by_outcome Outcomes.Refused is so = so
-      by_outcome Outcomes.SourceFailed is so = so
-      by_outcome Outcomes.SinkFailed is so = so
-      by_outcome Outcomes.TooLong is so = so
+      by_outcome other is so = so
 
       by_end : (end : MadeEnd D) → MadeSo told content may_leave moment left_since size faults operators jobs end old new status sink sink' written written' → AllSound told may_leave size new
       by_end TooSmall so = absurd (never 7 so.1)

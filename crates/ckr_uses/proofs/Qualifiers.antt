@@ -1,13 +1,13 @@
 -- Names with one more qualifier are names of data sets.
-use Rattle.std.proofs.Common.{◌≡◌, ◌≤◌, ◌+◌, ◌/◌, ℕ, zero, suc, true, false, List, [], ◌∷◌, ◌++◌, length, refl, ap, ◌∙◌, arith, cond, nat_le, ◌%◌}
+use Rattle.std.proofs.Common.{◌≡◌, ◌≤◌, ◌+◌, ℕ, true, false, List, [], ◌∷◌, ◌++◌, length, refl, ap, ◌∙◌, arith, cond, nat_le}
 use Rattle.std.specs.List.{list_all}
 use Rattle.std.proofs.lemmas.Bool.Decides.{nat_tests}
 use Rattle.std.proofs.lemmas.List.{length-append}
-use Rattle.std.proofs.lemmas.List.Folds.{list_all-append}
 use Rattle.std.proofs.lemmas.Bool.{and_from}
 use Rattle.ckr_base.specs.Grammar.{pieces, is_period, onto_first, is_ds_name, is_name8, is_name_byte}
 use Rattle.ckr_base.proofs.Bools.{and-second}
 use Rattle.ckr_base.specs.Digits.{last_digits}
+use Rattle.ckr_base.proofs.NameBytes.{digits-length, digits-named, name8-named}
 
 -- a text has a first piece
 onto_first-append : (byte : ℕ) (text : List ℕ) (rest : List (List ℕ)) → onto_first byte (pieces text ++ rest) ≡ onto_first byte (pieces text) ++ rest
@@ -38,16 +38,12 @@ pieces-name : (name : List ℕ) → list_all is_name_byte name ≡ true → piec
 pieces-name [] all = refl
 pieces-name (byte ∷ name) all = grind (arith, nat_tests, no_period byte, pieces-name name)
 
-name_bytes : (name : List ℕ) → is_name8 name ≡ true → list_all is_name_byte name ≡ true
-name_bytes [] e = refl
-name_bytes (byte ∷ name) e = grind (arith, nat_tests)
-
 pub name_long : (name : List ℕ) → is_name8 name ≡ true → length name ≤ 8
 name_long [] e = omega arith
 name_long (byte ∷ name) e = grind (arith, nat_tests)
 
 pieces-qualified : (front name : List ℕ) → is_name8 name ≡ true → pieces (front ++ 46 ∷ name) ≡ pieces front ++ name ∷ []
-pieces-qualified front name f = pieces-append front name ∙ ap (λ ps. pieces front ++ ps) (pieces-name name (name_bytes name f))
+pieces-qualified front name f = pieces-append front name ∙ ap (λ ps. pieces front ++ ps) (pieces-name name (name8-named name f))
 
 all_names : (ps : List (List ℕ)) (name : List ℕ) → list_all is_name8 ps ≡ true → is_name8 name ≡ true → list_all is_name8 (ps ++ name ∷ []) ≡ true
 all_names [] name e f = grind arith
@@ -68,18 +64,7 @@ pub is_ds_name-qualified : (front name : List ℕ) → is_ds_name front ≡ true
 is_ds_name-qualified front name e short f =
     and_from (nat_le (length (front ++ 46 ∷ name)) 44) (list_all is_name8 (pieces (front ++ 46 ∷ name))) (long front name short f) (parts front name e f)
 
-digit : (n : ℕ) → is_name_byte (48 + n % 10) ≡ true
-digit n = grind (arith, nat_tests)
-
-all_digits : (count number : ℕ) → list_all is_name_byte (last_digits count number) ≡ true
-all_digits zero number = refl
-all_digits (suc count) number = list_all-append is_name_byte (last_digits count (number / 10)) ((48 + number % 10) ∷ []) ∙ grind (arith, digit number, all_digits count (number / 10))
-
-length-digits : (count number : ℕ) → length (last_digits count number) ≡ count
-length-digits zero number = refl
-length-digits (suc count) number = length-append (last_digits count (number / 10)) ((48 + number % 10) ∷ []) ∙ omega (arith, length-digits count (number / 10))
-
 pub is_name8-run : (run : ℕ) → is_name8 (74 ∷ last_digits 7 run) ≡ true
-is_name8-run run = grind (arith, nat_tests, all_digits 7 run, length-digits 7 run)
+is_name8-run run = grind (arith, nat_tests, digits-named 7 run, digits-length 7 run)
 
 pub ruleset qualifies = (is_ds_name-qualified, is_name8-run, name_long)

@@ -11,7 +11,7 @@ use Rattle.ckr_base.specs.declared.code.Code.TheVariants.{System, User}
 use Rattle.ckr_base.specs.CodeText.{number_of, code_letter, same_code}
 use Rattle.ckr_base.specs.Grammar.{is_serial_byte, is_serial}
 use Rattle.ckr_base.proofs.Bools.{true-not-false}
-use Rattle.ckr_base.proofs.Numbers.{nat_le-true, nat_lt-itself}
+use Rattle.ckr_base.proofs.Numbers.{nat_le-true, nat_lt-beyond, nat_lt-itself}
 use Rattle.ckr_outside.specs.Disk.{part}
 use Rattle.ckr_volumes.specs.declared.header.HeaderError.TheVariants.{NotFormatted, Version}
 use Rattle.ckr_volumes.specs.declared.layout.Layout.{Layout}
@@ -211,9 +211,6 @@ passes_both b c x y e f = λ i. cond (not (e i) || f i) x y
 same_true : (a b : ℕ) → a ≡ b → eqb a b ≡ true
 same_true a b e = grind (arith, nat_tests)
 
-not_less : (a b : ℕ) → b ≤ a → nat_lt a b ≡ false
-not_less a b le = grind (arith, nat_tests)
-
 -- the header of a layout
 module _ (layout : Layout) (size : ℕ) (is : IsHeader layout size) where
   pub fields-length : length (field_bytes layout) ≡ 19 + 10 * length layout.volumes.items + 3 * length layout.eligible.items
@@ -278,7 +275,7 @@ module _ (layout : Layout) (size : ℕ) (is : IsHeader layout size) where
       ∙ passes (is_within 1 32 (length layout.volumes.items)) (Some 9) _ is.volume_count
       ∙ passes (is_within 1 32 (length layout.eligible.items)) (Some 10) _ is.code_count
       ∙ passes_both (is_within 256 268435456 (word_at header 11)) (nat_lt size (front_at header + lengths_at (length layout.volumes.items) header 19)) (Some 11) _
-      (ap (is_within 256 268435456) book_is ∙ is.book) (ap (nat_lt size) needed_is ∙ not_less size (disk_needed layout) is.fits)
+      (ap (is_within 256 268435456) book_is ∙ is.book) (ap (nat_lt size) needed_is ∙ nat_lt-beyond size (disk_needed layout) is.fits)
       ∙ passes (eqb (word_at header 15) 0) (Some 15) None (same_true (word_at header 15) 0 (image_is ∙ is.image))
 
   formatted : is_formatted header ≡ true

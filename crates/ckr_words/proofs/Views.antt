@@ -1,6 +1,6 @@
 -- What a word is by the grammar, beside what it looks like to clap.
 use Rattle.std.proofs.Common.{suc, ◌≡◌, ◌≢◌, ◌∙◌, ℕ, ◌+◌, ◌==◌, ◌⊎◌, inl, inr, Bool, true, false, refl, sym, ap, subst, List, [], ◌∷◌, ◌++◌, Option, Some, None, arith, true≢false}
-use Rattle.std.specs.Prelude.{◌&&◌, if◌then◌else◌, bytes_eq, codes, length, map, slice_get, drop, take, nat_eq, nat_lt}
+use Rattle.std.specs.Prelude.{if◌then◌else◌, bytes_eq, codes, length, map, slice_get, drop, take, nat_eq, nat_lt}
 use Rattle.std.specs.List.{list_all, starts_with, slice_split, onto_first, before_first, position_or_len}
 use Rattle.std.specs.Str.{IsUtf8, chars}
 use Rattle.std.proofs.lemmas.Slice.Eq.{bytes_eq-Decides}
@@ -8,6 +8,7 @@ use Rattle.std.proofs.lemmas.Str.{encodes-chars}
 use Rattle.std.proofs.lemmas.Bool.{ne_eqb}
 use Rattle.std.proofs.lemmas.Bool.Decides.{eqb_tells}
 use Rattle.std.proofs.lemmas.List.{take-append-drop}
+use Rattle.ckr_base.proofs.Bools.{and-false}
 use lib.Utf8.{encode, encodes}
 use Rattle.clap.specs.Lexer.{name_and_value}
 use Rattle.ckr_words.specs.Words.{Text, ends, asks, gives, stray, positional, word_of}
@@ -28,17 +29,13 @@ pub data View (word : Text) : Type 0 where
 abbrev scripts_by : List Text → Option (List Script)
 scripts_by parts = if list_all is_script parts then Some (map script_for parts) else None
 
-and_false : (b : Bool) → (b && false) ≡ false
-and_false true = refl
-and_false false = refl
-
 -- a word that begins with `-` isn't in the grammar of T
 no_scripts : (word : Text) → scripts_of (45 ∷ word) ≡ None
 unfolding scripts_of
 no_scripts word = go (slice_split is_bar word)
   where
     no_part : (part : Text) → is_script (45 ∷ part) ≡ false
-    no_part part = and_false (nat_lt 0 (length (45 ∷ part)))
+    no_part part = and-false (nat_lt 0 (length (45 ∷ part)))
 
     go : (parts : List Text) → scripts_by (onto_first 45 parts) ≡ None
     go [] = refl

@@ -1,12 +1,12 @@
 -- What accepted decks and sound events give to the next entry of a running step, on a trusted disk.
-use Rattle.std.proofs.Common.{◌≡◌, ◌<◌, arith, ◌&&◌, ◌^◌, ℕ, true, false, List, length, find, Option, None, Some}
+use Rattle.std.proofs.Common.{◌≡◌, ◌&&◌, ◌^◌, ℕ, true, false, List, length, find, Option, None, Some}
 use Rattle.std.specs.Option.{is_none, option_map_or}
 use Rattle.std.specs.Prelude.{nat_le, nat_lt}
 use Rattle.std.proofs.lemmas.Bool.{and_from, false≢true}
-use Rattle.std.proofs.lemmas.Bool.Decides.{nat_tests}
 use Rattle.ckr_desk_turn.proofs.PassedLists.{passed-few}
 use Rattle.ckr_base.proofs.Bools.{and-second}
 use Rattle.ckr_base.specs.Grammar.{is_check_id}
+use Rattle.ckr_base.proofs.Numbers.{nat_lt-from}
 use Rattle.ckr_desk_memory.specs.Entries.{is_written}
 use Rattle.ckr_desk_memory.specs.EntryModels.{HasCheckRecords}
 use Rattle.ckr_desk_memory.specs.EventChanges.{is_of_run}
@@ -26,9 +26,6 @@ use Rattle.ckr_desk.proofs.Checkpoints.Steps.{its_pair}
 use Rattle.ckr_desk.proofs.Openings.DeckRecords.{deck-records}
 use Rattle.ckr_desk.specs.Soundness.{IsTrusted, events_in, office_on, state_of}
 use Rattle.ckr_desk.specs.State.{DeskView}
-
-less-so : (one other : ℕ) → one < other → nat_lt one other ≡ true
-less-so one other less = grind (arith, nat_tests)
 
 -- the numbers of an entry that fits are in their ranges
 pub fits-ranged : (sets : Named TableSet) (row : RunRow) (start : StepStart) (step : StepProgress) → checkpoint_fits sets row start step ≡ true → is_in_range (next_entry sets row start step) ≡ true
@@ -67,7 +64,7 @@ module _ {D : Type 0} (told : Type 0) (content : D → List ℕ) (may_leave : D 
 
   passed-so : nat_lt (length row.passed) (2 ^ 16) ≡ true
   passed-so =
-      less-so (length row.passed) (2 ^ 16)
+      nat_lt-from (length row.passed) (2 ^ 16)
       (passed-few (state_of content old).desk (its_pair told content may_leave size old trusted turn its run planned on found).step (its_pair told content may_leave size old trusted turn its run planned on found).going trusted.stands.is_desk)
 
   -- an entry that fits may be written

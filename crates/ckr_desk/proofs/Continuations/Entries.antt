@@ -7,6 +7,7 @@ use Rattle.std.specs.Option.{option_map, option_map_or}
 use Rattle.ckr_base.specs.Grammar.{is_name8}
 use Rattle.ckr_base.proofs.Numbers.{equal-true}
 use Rattle.ckr_base.proofs.Options.{some-not-none}
+use Rattle.ckr_base.proofs.Bools.{and-false}
 use Rattle.ckr_entry.specs.Entry.{IsEntry, entry_in}
 use Rattle.ckr_entry.specs.Parts.{Entry}
 use Rattle.ckr_jcl.specs.declared.deck.Kind.{Kind}
@@ -65,17 +66,13 @@ no-name : (job : Name) → IsTrue (is_name8 job) → same_name job [] ≡ false
 no-name [] named = absurd (false≢true named)
 no-name (first ∷ rest) named = refl
 
-and-none : (one : Bool) → (one && false) ≡ false
-and-none true = refl
-and-none false = refl
-
 -- no entry tells the point of one of which none is kept: it has the name of a job
 pub unwritten-apart : (kept : Kept) (entry : Entry) → IsTrue (is_name8 entry.job) → false ≡ is_as_kept (kept_entry kept (point_written None)) entry
 unwritten-apart kept entry named =
     let none : EntryPoint = point_written None in
     sym
     (ap (λ (b : Bool). same_name entry.id kept.id && (b && same_step none entry && same_counts none entry && same_lists none entry)) (no-name entry.job named)
-    ∙ and-none (same_name entry.id kept.id))
+    ∙ and-false (same_name entry.id kept.id))
 
 -- ---- what was found
 

@@ -7,13 +7,13 @@ use Rattle.ckr_events.specs.Event.{event_of, most_bytes}
 use Rattle.ckr_events.proofs.Sizes.{short_events}
 use Rattle.ckr_desk_memory.proofs.Replays.{replayed-none}
 use Rattle.ckr_desk_memory.specs.Replay.{deck_of, goes_on, replayed}
+use Rattle.ckr_jcl_decks.proofs.CardLimit.{few-stored}
 use Rattle.ckr_desk_turn.proofs.KeptDecks.{kept_read, stored_long}
 use Rattle.ckr_desk_turn.specs.DeckEvents.{IsKeptDeck}
 use Rattle.ckr_desk_turn.specs.Model.Cards.{kept_deck, stored_of_kept}
 use Rattle.ckr_jcl.specs.declared.deck.Job.{Job}
 use Rattle.ckr_points.specs.Rows.{TablesModel}
 use Rattle.ckr_volumes.specs.declared.layout.Layout.{Layout}
-use Rattle.ckr_desk.proofs.Calls.CardCounts.{few_cards}
 use Rattle.ckr_desk.proofs.Openings.DeckRecords.{went-on}
 use Rattle.ckr_desk.specs.Opening.{behind_read, behind_record}
 
@@ -21,7 +21,7 @@ use Rattle.ckr_desk.specs.Opening.{behind_read, behind_record}
 few-kept : (cards : List ℕ) (deck : Option Job) → IsKeptDeck cards deck → kept_deck cards ≡ deck → length cards / 80 ≤ 100000
 few-kept cards None kept is = absurd kept
 few-kept cards (Some job) kept is =
-    let few : length (stored_of_kept cards) / 81 ≤ 100000 = few_cards (stored_of_kept cards) job (kept_read cards job is) in
+    let few : length (stored_of_kept cards) / 81 ≤ 100000 = few-stored (stored_of_kept cards) job (kept_read cards job is) in
     omega (arith, few, stored_long cards)
 
 short-event : (layout : Layout) (tables : TablesModel) (event : Event) → goes_on layout tables event (deck_of event) ≡ true → most_bytes event ≤ 8000009

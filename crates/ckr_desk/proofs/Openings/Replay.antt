@@ -1,5 +1,5 @@
 -- One event more of a book, and its end.
-use Rattle.std.proofs.Common.{◌≡◌, ◌≤◌, ◌+◌, ◌-◌, ℕ, true, false, List, [], ◌∷◌, length, drop, Option, Some, None, Result, Ok, Err, Bool, IfErr, IsErrAnd, unwrap_or, refl, ap, sym, ◌∙◌, subst, ⊎_elim, arith, cond}
+use Rattle.std.proofs.Common.{◌≡◌, ◌≤◌, ◌+◌, ◌-◌, ℕ, true, false, List, [], ◌∷◌, length, drop, Option, Some, None, Result, Ok, Err, Bool, unwrap_or, refl, ap, sym, ◌∙◌, subst, ⊎_elim, arith, cond}
 use Rattle.std.specs.Option.{is_some}
 use Rattle.std.proofs.lemmas.List.{drop-drop}
 use Rattle.std.proofs.lemmas.Bool.{false≢true}
@@ -165,8 +165,3 @@ replay_cause rose told layout book tables place (OpenErrors.BadHeader offset) ca
 replay_cause rose told layout book tables place (OpenErrors.BadEntry job offset) cause = absurd cause
 replay_cause rose told layout book tables place (OpenErrors.BadBook offset) cause =
     λ both. bad_there layout book tables place both.1 (cause.1 both.0) ∙ ap bad_book (sym cause.0)
-
--- an error that is handed on
-pub handed_on : {T E : Type 0} (r : Result T E) (error : E) (P : E → Type 0) → IsErrAnd r (λ e. e ≡ error) → P error → IfErr r P
-handed_on (Ok x) error P is holds = tt
-handed_on (Err e) error P is holds = subst P (sym is) holds

@@ -8,7 +8,7 @@ use Rattle.std.proofs.lemmas.Option.{same_Some}
 use Rattle.ckr_points_invariant.specs.EarlierRuns.{continues}
 use Rattle.ckr_base.proofs.Bools.{and-first, and-second, bool-cases, or-cases}
 use Rattle.ckr_base.proofs.Numbers.{nat_le-true}
-use Rattle.ckr_base.proofs.Options.{is_some-true, some-not-none, some-one}
+use Rattle.ckr_base.proofs.Options.{is_some-true, option_map_or-true, some-not-none, some-one}
 use Rattle.ckr_base.specs.declared.code.Code.{Code}
 use Rattle.ckr_entry.specs.declared.point.Passed.{Passed}
 use Rattle.ckr_events.specs.Jobs.{job_of}
@@ -64,11 +64,6 @@ use Rattle.ckr_desk_turn.specs.Queue.{AreNumbered}
 use Rattle.ckr_desk_memory.specs.Holders.{AreHolders, AreOwn, HasOwnEffect, HasStartPassed, IsStartPassed, PassesOnOwn, PassesOwn, changed_names, reached_names, steps_begun}
 
 -- ---- tests
-
--- a test of what is found holds of it
-pub tested : {X A : Type 0} (o : Option X) (test : X → Bool) → option_map_or test o false ≡ true → ((x : X) → o ≡ Some x → test x ≡ true → A) → A
-tested None test passes use_it = absurd (false≢true passes)
-tested (Some x) test passes use_it = use_it x refl passes
 
 pub by-some : {X : Type 0} (Q : TablesModel → Type 0) (o : Option X) (change : X → TablesModel) (none : TablesModel) (x : X) → o ≡ Some x → Q (change x) → Q (option_map_or change o none)
 by-some Q o change none x at one = subst (λ o. Q (option_map_or change o none)) (sym at) one
@@ -258,7 +253,7 @@ module _ (tables : TablesModel) (rows : AllByRecursion IsAcceptedRow tables.runs
 
   started : (layout : Layout) (step : ℕ) (items : List Made) → started_follows layout tables step items row ≡ true → Goes (option_map_or (λ owned. after_started row owned step items tables) (step_of_run row step) tables)
   started layout step items follow =
-      tested (step_of_run row step) _ (and-second (is_in_state On row) _ follow)
+      option_map_or-true (step_of_run row step) _ (and-second (is_in_state On row) _ follow)
       (λ owned found passes.
       by-some Goes (step_of_run row step) (λ owned. after_started row owned step items tables) tables owned found
       (record {
@@ -375,7 +370,7 @@ module _ (tables : TablesModel) (rows : AllByRecursion IsAcceptedRow tables.runs
         (and-second _ (is_length_of set (place + records_of bytes) (output_names row.job.root owned) lengths) checks) in
         let fresh : is_none (kept_at tables.sets set kept.id) ≡ true =
         ap (λ id. is_none (kept_at tables.sets set id)) its_id
-        ∙ tested (entry_at tables.sets set) (λ table. place == table.set.length && is_none (kept_at tables.sets set id)) (and-first _ (is_length_of set (place + records_of bytes) (output_names row.job.root owned) lengths) checks)
+        ∙ option_map_or-true (entry_at tables.sets set) (λ table. place == table.set.length && is_none (kept_at tables.sets set id)) (and-first _ (is_length_of set (place + records_of bytes) (output_names row.job.root owned) lengths) checks)
         (λ table there passes. and-second (place == table.set.length) _ passes) in
         record {
           row = row;
@@ -719,7 +714,7 @@ module _ (tables : TablesModel) (rows : AllByRecursion IsAcceptedRow tables.runs
       (disposed_over (record row { place = Some (Within (step_in (place_of row)) writes) }) _ (behind owned found writes lengths) owned (step_in (place_of row)) holds refl refl refl refl refl refl refl (sym (steps-within (place_of row) within)) (λ E through each. committed-has E through (output_names row.job.root owned) lengths tables.sets each) (behind_rows owned found writes lengths) found from (behind_outside owned found lengths))))
 
   lengths_some : (lengths : List ℕ) → lengths_follow tables row lengths ≡ true → is_some (own_step row) ≡ true
-  lengths_some lengths follow = tested (own_step row) _ follow (λ owned found passes. ap is_some found)
+  lengths_some lengths follow = option_map_or-true (own_step row) _ follow (λ owned found passes. ap is_some found)
 
   ended : (ending : Ending) → ended_follows tables row ending ≡ true → Goes (after_ended row ending tables)
   ended Completed follow =
@@ -731,7 +726,7 @@ module _ (tables : TablesModel) (rows : AllByRecursion IsAcceptedRow tables.runs
       (lengths_some lengths.items (and-second (is_running row || is_in_state ReleasedRun row) _ follow))
   ended (Allocation dd cause first second) follow =
       abnormal (place_of row) refl (on-holds row.state (and-first (is_in_state On row) _ follow))
-      (tested (own_step row) _ (and-second (is_in_state On row) _ follow) (λ owned found passes. ap is_some found))
+      (option_map_or-true (own_step row) _ (and-second (is_in_state On row) _ follow) (λ owned found passes. ap is_some found))
 
 -- ---- each event
 
@@ -756,7 +751,7 @@ goes-in layout tables rows numbered placed (Started job step items) deck plain o
 goes-in layout tables rows numbered placed (Rewritten job taken writes lengths place image) deck plain other follow =
     tested-run tables job (λ row. is_running row && lengths_follow tables row lengths.items && of_step row (is_rewrite tables place image row)) follow
     (λ row at passes.
-    tested (own_step row) (is_rewrite tables place image row) (and-second (is_running row && lengths_follow tables row lengths.items) _ passes)
+    option_map_or-true (own_step row) (is_rewrite tables place image row) (and-second (is_running row && lengths_follow tables row lengths.items) _ passes)
     (λ owned found rewrites.
     by-row (λ after. RunGoesOn tables after job) tables job (λ row. by_step (λ owned step. after_rewritten row owned step writes lengths.items tables) row tables) row at
     (by-own (λ after. RunGoesOn tables after job) tables (λ owned step. after_rewritten row owned step writes lengths.items tables) row owned found
@@ -764,7 +759,7 @@ goes-in layout tables rows numbered placed (Rewritten job taken writes lengths p
 goes-in layout tables rows numbered placed (Checkpointed job id taken writes lengths place bytes) deck plain other follow =
     tested-run tables job (λ row. is_running row && lengths_follow tables row lengths.items && of_step row (is_checkpoint tables id lengths.items place bytes row)) follow
     (λ row at passes.
-    tested (own_step row) (is_checkpoint tables id lengths.items place bytes row) (and-second (is_running row && lengths_follow tables row lengths.items) _ passes)
+    option_map_or-true (own_step row) (is_checkpoint tables id lengths.items place bytes row) (and-second (is_running row && lengths_follow tables row lengths.items) _ passes)
     (λ owned found checks.
     let kept : Kept = record { id = id; run = job; place = place; bytes = bytes } in
     by-row (λ after. RunGoesOn tables after job) tables job (λ row. by_step (λ owned step. after_checkpointed row owned step kept taken writes lengths.items tables) row tables) row at
@@ -776,7 +771,7 @@ goes-in layout tables rows numbered placed (Cancelled job) deck plain other foll
 goes-in layout tables rows numbered placed (StepEnded job step rc writes lengths) deck plain other follow =
     tested-run tables job (λ row. is_running row && step_in (place_of row) == step && lengths_follow tables row lengths.items) follow
     (λ row at passes.
-    tested (own_step row) _ (and-second (is_running row && step_in (place_of row) == step) (lengths_follow tables row lengths.items) passes)
+    option_map_or-true (own_step row) _ (and-second (is_running row && step_in (place_of row) == step) (lengths_follow tables row lengths.items) passes)
     (λ owned found are.
     by-row (λ after. RunGoesOn tables after job) tables job (λ row. by_step (λ owned step. after_step_ended row owned step rc writes lengths.items tables) row tables) row at
     (by-own (λ after. RunGoesOn tables after job) tables (λ owned step. after_step_ended row owned step rc writes lengths.items tables) row owned found
@@ -789,7 +784,7 @@ goes-in layout tables rows numbered placed (Restarted job initiator code checkpo
 goes-in layout tables rows numbered placed (Held job code writes lengths) deck plain other follow =
     tested-run tables job (λ row. (is_running row || is_in_state ReleasedRun row) && lengths_follow tables row lengths.items) follow
     (λ row at passes.
-    tested (own_step row) _ (and-second (is_running row || is_in_state ReleasedRun row) (lengths_follow tables row lengths.items) passes)
+    option_map_or-true (own_step row) _ (and-second (is_running row || is_in_state ReleasedRun row) (lengths_follow tables row lengths.items) passes)
     (λ owned found are.
     by-row (λ after. RunGoesOn tables after job) tables job (λ row. by_step (λ owned step. after_held row owned step code writes lengths.items tables) row tables) row at
     (by-own (λ after. RunGoesOn tables after job) tables (λ owned step. after_held row owned step code writes lengths.items tables) row owned found

@@ -5,6 +5,7 @@ use Rattle.std.specs.Option.{is_none, option_map, option_map_or}
 use Rattle.std.proofs.lemmas.Bool.{false≢true}
 use Rattle.std.proofs.lemmas.Option.{same_Some}
 use Rattle.ckr_base.proofs.Options.{some-not-none}
+use Rattle.ckr_base.proofs.Sequences.{each-filter}
 use Rattle.ckr_entry.specs.declared.point.Mark.{Mark}
 use Rattle.ckr_entry.specs.declared.point.Present.{Present}
 use Rattle.ckr_library.proofs.Named.{at-with_changed}
@@ -14,7 +15,6 @@ use Rattle.ckr_points.specs.Restart.{kept_at}
 use Rattle.ckr_points.specs.Rows.{KeptEntry, TableSet, cut_set, table_ways}
 use Rattle.ckr_points.specs.Tables.{committed}
 use Rattle.ckr_library.specs.Catalog.{ends_within}
-use Rattle.ckr_desk_turn.proofs.Moves.{all-filtered}
 use Rattle.ckr_desk_memory.specs.Holders.{EachKept}
 
 -- ---- each entry
@@ -34,7 +34,7 @@ module _ (P : KeptEntry → Type 0) where
       by false old e is = each table (e ∙ is)
 
   cut-leaves : (most : ℕ) → Leaves P (cut_set most)
-  cut-leaves most table each = all-filtered P (λ (entry : KeptEntry). ends_within most entry.kept) table.entries each
+  cut-leaves most table each = each-filter P (λ (entry : KeptEntry). ends_within most entry.kept) table.entries each
 
   back-leaves : (most : ℕ) → Leaves P (put_back_length most)
   back-leaves most table each = by (nat_le most table.set.length)

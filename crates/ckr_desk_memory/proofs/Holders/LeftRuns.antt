@@ -5,7 +5,7 @@ use Rattle.std.specs.Option.{is_none, is_some, option_map_or}
 use Rattle.std.proofs.lemmas.Bool.{and_from, false≢true}
 use Rattle.ckr_base.proofs.Bools.{and-first, and-second}
 use Rattle.ckr_base.proofs.Numbers.{equal-false, equal-true, number-cases, one-plus}
-use Rattle.ckr_base.proofs.Options.{some-one}
+use Rattle.ckr_base.proofs.Options.{option_map_or-true, some-one}
 use Rattle.ckr_base.proofs.Sequences.{each-implies}
 use Rattle.ckr_events.specs.Jobs.{job_of}
 use Rattle.ckr_events.specs.declared.event.Event.{Event}
@@ -22,7 +22,7 @@ use Rattle.ckr_points.specs.Tables.{after_cancelled, after_checkpointed, after_r
 use Rattle.ckr_points_invariant.proofs.WaitingRuns.{tested-run}
 use Rattle.ckr_points_tables.specs.Invariant.{is_submission}
 use Rattle.ckr_volumes.specs.declared.layout.Layout.{Layout}
-use Rattle.ckr_desk_memory.proofs.Holders.Events.{by-some, others-stay, tested}
+use Rattle.ckr_desk_memory.proofs.Holders.Events.{by-some, others-stay}
 use Rattle.ckr_desk_memory.proofs.Holders.Submissions.{row-more}
 use Rattle.ckr_desk_memory.proofs.Holders.Moves.{by-own, by-row, row-as_is, row-next, row-number}
 use Rattle.ckr_desk_memory.specs.EventChanges.{failed_in}
@@ -97,7 +97,7 @@ module _ (layout : Layout) (tables : TablesModel) (rows : AllByRecursion IsAccep
 
   started_left : (job step : ℕ) (items : List Made) (row : RunRow) → run_of tables job ≡ Some row → started_follows layout tables step items row ≡ true → IsLeft (option_map_or (λ owned. after_started row owned step items tables) (step_of_run row step) tables) job
   started_left job step items row at follow =
-      tested (step_of_run row step) _ (and-second (is_in_state On row) _ follow)
+      option_map_or-true (step_of_run row step) _ (and-second (is_in_state On row) _ follow)
       (λ owned found passes.
       by-some (λ after. IsLeft after job) (step_of_run row step) (λ owned. after_started row owned step items tables) tables owned found (
         _,
@@ -135,7 +135,7 @@ module _ (layout : Layout) (tables : TablesModel) (rows : AllByRecursion IsAccep
       (λ left.
       tested-run tables job (λ row. is_running row && lengths_follow tables row lengths.items && of_step row (is_rewrite tables place image row)) follow
       (λ row at passes.
-      tested (own_step row) (is_rewrite tables place image row) (and-second (is_running row && lengths_follow tables row lengths.items) _ passes)
+      option_map_or-true (own_step row) (is_rewrite tables place image row) (and-second (is_running row && lengths_follow tables row lengths.items) _ passes)
       (λ owned found rewrites.
       by-row (λ after. IsLeft after job) tables job (λ row. by_step (λ owned step. after_rewritten row owned step writes lengths.items tables) row tables) row at
       (by-own (λ after. IsLeft after job) tables (λ owned step. after_rewritten row owned step writes lengths.items tables) row owned found (
@@ -149,7 +149,7 @@ module _ (layout : Layout) (tables : TablesModel) (rows : AllByRecursion IsAccep
       (λ left.
       tested-run tables job (λ row. is_running row && lengths_follow tables row lengths.items && of_step row (is_checkpoint tables id lengths.items place bytes row)) follow
       (λ row at passes.
-      tested (own_step row) (is_checkpoint tables id lengths.items place bytes row) (and-second (is_running row && lengths_follow tables row lengths.items) _ passes)
+      option_map_or-true (own_step row) (is_checkpoint tables id lengths.items place bytes row) (and-second (is_running row && lengths_follow tables row lengths.items) _ passes)
       (λ owned found checks.
       let kept : Kept = record { id = id; run = job; place = place; bytes = bytes } in
       by-row (λ after. IsLeft after job) tables job (λ row. by_step (λ owned step. after_checkpointed row owned step kept taken writes lengths.items tables) row tables) row at

@@ -10,7 +10,7 @@ use Rattle.std.proofs.lemmas.Option.{same_Some}
 use Rattle.ckr_base.proofs.Bools.{bool-cases, or-cases}
 use Rattle.ckr_base.proofs.Numbers.{equal-itself, nat_le-true, number-cases, one-plus}
 use Rattle.ckr_base.proofs.Options.{some-not-none, some-one}
-use Rattle.ckr_base.proofs.Sequences.{all-get, each-get, each-implies}
+use Rattle.ckr_base.proofs.Sequences.{all-get, each-by_place, each-filter, each-get, each-implies}
 use Rattle.ckr_jcl.specs.declared.deck.Job.{Job}
 use Rattle.ckr_library.specs.NameMaps.{Name, Named, entry_at, same_name}
 use Rattle.ckr_meaning.specs.EffectiveJob.{Effective, OwnedStep, is_among, names_of_steps, step_at}
@@ -29,13 +29,11 @@ use Rattle.ckr_points_invariant.proofs.Holders.DeckNames.{deck-named}
 use Rattle.ckr_points_invariant.proofs.Holders.JobNames.{kin-stays, one-row-keeps}
 use Rattle.ckr_points_invariant.proofs.Holders.Rows.{holder-ended, run-other, run-same}
 use Rattle.ckr_points_invariant.proofs.WrittenEntries.Sets.{EachHas, GoesOnThrough}
-use Rattle.ckr_desk_turn.proofs.Moves.{all-filtered}
 use Rattle.ckr_uses.proofs.Conflicts.{holds-symm}
 use Rattle.ckr_uses.specs.Uses.{holds, uses_of}
 use Rattle.ckr_desk_memory.proofs.Holders.Names.{IsActing, changed-alone, step-formed}
 use Rattle.ckr_desk_memory.proofs.Starts.Steps.{row-among}
 use Rattle.ckr_desk_memory.specs.Invariant.{IsAcceptedRow, IsPlacedRow}
-use Rattle.ckr_desk_turn.proofs.OtherRuns.{every-by}
 use Rattle.ckr_desk_turn.specs.Invariant.{HasStepName}
 use Rattle.ckr_desk_turn.specs.Queue.{AreNumbered}
 use Rattle.ckr_desk_memory.specs.Holders.{AreHolders, AreOfDeck, AreSingleEntries, EachEntryKept, HasChanged, HasOwnEffect, HasStartPassed, HasStepNames, HoldApart, IsNamedEntry, IsOwnEntry, KeepsOwnEntries, PassesOnOwn, PassesOwn, changed_names, reached_names}
@@ -164,7 +162,7 @@ pub record IsNewEntry (row next : RunRow) (set : Name) (entry : KeptEntry) : Typ
 -- each entry was kept
 pub was-kept : (sets : Named TableSet) (New : Name → KeptEntry → Type 0) → EachEntryKept (λ set entry. WasKept sets set entry ⊎ New set entry) sets
 was-kept sets New set table at =
-    every-by (λ (entry : KeptEntry). WasKept sets set entry ⊎ New set entry) table.entries (λ place entry there. inl (record { table = table; at = at; place = place; there = there }))
+    each-by_place (λ (entry : KeptEntry). WasKept sets set entry ⊎ New set entry) table.entries (λ place entry there. inl (record { table = table; at = at; place = place; there = there }))
 
 -- so what holds of those that were kept, and of new ones, holds of each
 pub each-later : (P New : Name → KeptEntry → Type 0) (sets later : Named TableSet) → EachEntryKept (λ set entry. WasKept sets set entry ⊎ New set entry) later → ((set : Name) (entry : KeptEntry) → New set entry → P set entry) → EachEntryKept P sets → EachEntryKept P later
@@ -183,7 +181,7 @@ pub record GoesOnWithEntries (sets later : Named TableSet) (New : Name → KeptE
 -- what goes on through each change of a data set holds of entries that are fewer
 pub each-through : (P : Name → KeptEntry → Type 0) → GoesOnThrough (λ set table. AllByRecursion (P set) table.entries)
 each-through P = record {
-  cut = λ set table most each. all-filtered (P set) (λ entry. ends_within most entry.kept) table.entries each;
+  cut = λ set table most each. each-filter (P set) (λ entry. ends_within most entry.kept) table.entries each;
   marked = λ set table on each. each;
   stamped = λ set table stamp each. each;
   fresh = λ set table none. subst (AllByRecursion (P set)) (sym none) tt;
@@ -194,7 +192,7 @@ single-filtered kept [] single = tt
 single-filtered kept (first ∷ rest) single = by (kept first) (single-filtered kept rest single.1)
   where
     by : (b : Bool) → AreSingleEntries (filter kept rest) → AreSingleEntries (cond b (first ∷ filter kept rest) (filter kept rest))
-    by true others = (all-filtered (λ (other : KeptEntry). same_name other.kept.id first.kept.id ≡ false) kept rest single.0, others)
+    by true others = (each-filter (λ (other : KeptEntry). same_name other.kept.id first.kept.id ≡ false) kept rest single.0, others)
     by false others = others
 
 pub single-through : GoesOnThrough (λ set table. AreSingleEntries table.entries)
@@ -412,7 +410,7 @@ module _ (tables after : TablesModel) (job : ℕ) (goes : RowGoesOn tables after
 
   orderly-behind : AreOrderly after
   orderly-behind =
-      every-by (λ (row : RunRow). is_orderly row.number row.deck ≡ true) after.runs
+      each-by_place (λ (row : RunRow). is_orderly row.number row.deck ≡ true) after.runs
       (λ place row at.
       each-row (λ (row : RunRow). is_orderly row.number row.deck ≡ true)
       (ap (λ n. is_orderly n goes.next.deck) goes.number ∙ ap (is_orderly goes.row.number) goes.deck ∙ row-orderly tables job goes.row are.orderly goes.row_at)

@@ -7,7 +7,7 @@ use Rattle.std.proofs.lemmas.List.Folds.{list_any-append}
 use Rattle.ckr_base.proofs.Bools.{and-first, and-second, bool-cases, if-then, or-cases}
 use Rattle.ckr_base.proofs.Numbers.{equal-true}
 use Rattle.ckr_base.proofs.Options.{option-cases, some-not-none}
-use Rattle.ckr_base.proofs.Sequences.{all-at, any-filter, each-get}
+use Rattle.ckr_base.proofs.Sequences.{all-at, any-filter, any-second, each-get}
 use Rattle.ckr_jcl.specs.declared.deck.Dd.{Dd}
 use Rattle.ckr_jcl.specs.declared.deck.Job.{Job}
 use Rattle.ckr_jcl.specs.declared.deck.Restart.{Restart}
@@ -44,16 +44,6 @@ use Rattle.ckr_desk_memory.specs.Holders.{changed_names, is_changed, reached_nam
 
 -- ---- names of a step
 
-some_kept : {X : Type 0} (kept test : X → Bool) (xs : List X) → list_any (λ x. kept x && test x) xs ≡ true → list_any test xs ≡ true
-some_kept kept test [] some = some
-some_kept kept test (first ∷ rest) some =
-    by (kept first) (test first) some (some_kept kept test rest)
-  where
-    by : (a b : Bool) → ((a && b) || list_any (λ x. kept x && test x) rest) ≡ true → (list_any (λ x. kept x && test x) rest ≡ true → list_any test rest ≡ true) → (b || list_any test rest) ≡ true
-    by a true some more = refl
-    by true false some more = more some
-    by false false some more = more some
-
 changed_some : (root : ℕ) (owned : OwnedStep) (name : Name) → is_among (changed_names root owned) name ≡ true → list_any (λ dd. is_changed dd && is_name name (name_of root owned dd)) owned.step.dds ≡ true
 changed_some root owned name among =
     sym (any-filter is_changed (λ dd. is_name name (name_of root owned dd)) owned.step.dds)
@@ -63,7 +53,7 @@ changed_some root owned name among =
 pub changed-named : (root : ℕ) (owned : OwnedStep) (name : Name) → is_among (changed_names root owned) name ≡ true → is_among (names_of root owned) name ≡ true
 changed-named root owned name among =
     among-filter_map (name_of root owned) owned.step.dds name
-    ∙ some_kept is_changed (λ dd. is_name name (name_of root owned dd)) owned.step.dds (changed_some root owned name among)
+    ∙ any-second is_changed (λ dd. is_name name (name_of root owned dd)) owned.step.dds (changed_some root owned name among)
 
 output_changed : (dd : Dd) (named : Bool) → (is_output dd.role && named) ≡ true → (is_changed dd && named) ≡ true
 output_changed dd named e = by (is_output dd.role) (is_updates dd.role) named e

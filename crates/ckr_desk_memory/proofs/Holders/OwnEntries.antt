@@ -6,7 +6,7 @@ use Rattle.std.specs.Option.{is_none, option_map}
 use Rattle.std.proofs.lemmas.Bool.{false≢true}
 use Rattle.ckr_base.proofs.Bools.{bool-cases}
 use Rattle.ckr_base.proofs.Numbers.{equal-true, number-cases}
-use Rattle.ckr_base.proofs.Options.{some-not-none, some-one}
+use Rattle.ckr_base.proofs.Options.{option_map-some, some-not-none, some-one}
 use Rattle.ckr_base.proofs.Sequences.{each-append, each-implies, find-passes}
 use Rattle.ckr_entry.specs.declared.point.Passed.{Passed}
 use Rattle.ckr_library.proofs.Named.{at-with_changed, name-itself, name-same}
@@ -20,7 +20,7 @@ use Rattle.ckr_points.specs.Restart.{kept_at, place_of, point_restarted, step_in
 use Rattle.ckr_points.specs.Rows.{EntryPoint, KeptEntry, RunRow, StartPoint, TableSet, step_of_run}
 use Rattle.ckr_points.specs.Tables.{committed, point_rewritten, with_kept_entry}
 use Rattle.ckr_points_invariant.proofs.Marks.Points.{point_at-new, point_at-other}
-use Rattle.ckr_points_invariant.proofs.WrittenEntries.Sets.{changed-was, committed-has}
+use Rattle.ckr_points_invariant.proofs.WrittenEntries.Sets.{committed-has}
 use Rattle.ckr_desk_memory.proofs.Holders.KeptEntries.{kept-committed, none-kept}
 use Rattle.ckr_desk_memory.proofs.Holders.Moves.{GoesOnWithEntries, WasKept, each-through, single-through, was-kept}
 use Rattle.ckr_desk_memory.proofs.Invariant.{start-step}
@@ -192,7 +192,7 @@ checks-keep sets outputs lengths set entry fresh New new = record {
         bool-cases (same_name name set)
         (λ same.
         let is : name ≡ set = name-same name set same in
-        let was = changed-was (with_kept_entry entry) (entry_at behind name) table (sym (ap (λ b. cond b (option_map (with_kept_entry entry) (entry_at behind name)) (entry_at behind name)) same) ∙ sym (at-with_changed set name (with_kept_entry entry) behind) ∙ at) in
+        let was = option_map-some (with_kept_entry entry) (entry_at behind name) table (sym (ap (λ b. cond b (option_map (with_kept_entry entry) (entry_at behind name)) (entry_at behind name)) same) ∙ sym (at-with_changed set name (with_kept_entry entry) behind) ∙ at) in
         let there : entry_at behind set ≡ Some was.0 = ap (entry_at behind) (sym is) ∙ was.1 in
         subst (λ name. E name table) (sym is) (subst (E set) was.2 (more was.0 (each set was.0 there, none was.0 there))))
         (λ apart. each name table (sym (ap (λ b. cond b (option_map (with_kept_entry entry) (entry_at behind name)) (entry_at behind name)) apart) ∙ sym (at-with_changed set name (with_kept_entry entry) behind) ∙ at))

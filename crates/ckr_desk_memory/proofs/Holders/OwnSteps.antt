@@ -22,14 +22,14 @@ use Rattle.ckr_points_invariant.proofs.WaitingRuns.{tested-run}
 use Rattle.ckr_points_tables.specs.Invariant.{MaySubmit}
 use Rattle.ckr_points_tables.specs.View.{RoomyTables}
 use Rattle.ckr_volumes.specs.declared.layout.Layout.{Layout}
-use Rattle.ckr_desk_memory.proofs.Holders.Events.{by-some, holders-none, holders-stay, no-row, tested}
+use Rattle.ckr_desk_memory.proofs.Holders.Events.{by-some, holders-none, holders-stay, no-row}
 use Rattle.ckr_desk_memory.proofs.Holders.Moves.{by-row, row-as_is, row-next, row-number}
 use Rattle.ckr_desk_memory.proofs.Holders.OwnSets.{running-served}
 use Rattle.ckr_desk_memory.proofs.Holders.Points.{points-stay}
 use Rattle.ckr_desk_memory.proofs.Holders.RunningSteps.{running-stay}
 use Rattle.ckr_desk_memory.proofs.RunningSteps.Again.{again-cases, is-back}
 use Rattle.ckr_base.specs.declared.code.Code.{Code}
-use Rattle.ckr_base.proofs.Options.{some-not-none}
+use Rattle.ckr_base.proofs.Options.{option_map_or-true, some-not-none}
 use Rattle.ckr_desk_memory.proofs.Replays.{any_accepted, any_submits, goes-on-with}
 use Rattle.ckr_desk_memory.proofs.RunningSteps.First.{all-without}
 use Rattle.ckr_desk_memory.proofs.RunningSteps.TakenSteps.{is-taken}
@@ -129,7 +129,7 @@ module _ (layout : Layout) (tables : TablesModel) (rows : AllByRecursion IsAccep
   started : (job step : ℕ) (items : List Made) (old new : List RunningStepView) (row : RunRow) → AreSingle old → run_of tables job ≡ Some row → started_follows layout tables step items row ≡ true
       → StartsAlone job step old new (option_map_or (λ owned. after_started row owned step items tables) (step_of_run row step) tables)
   started job step items old new row single at follow =
-      tested (step_of_run row step) _ (and-second (is_in_state On row) _ follow)
+      option_map_or-true (step_of_run row step) _ (and-second (is_in_state On row) _ follow)
       (λ owned found passes.
       by-some (StartsAlone job step old new) (step_of_run row step) (λ owned. after_started row owned step items tables) tables owned found
       (λ starts.

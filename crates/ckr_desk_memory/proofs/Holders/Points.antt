@@ -9,7 +9,7 @@ use Rattle.arrayvec.specs.ArrayVec.{ArrayVec}
 use Rattle.ckr_points_invariant.specs.EarlierRuns.{MayContinue}
 use Rattle.ckr_base.proofs.Bools.{and-first, and-second}
 use Rattle.ckr_base.proofs.Numbers.{equal-itself, equal-true, number-cases}
-use Rattle.ckr_base.proofs.Options.{some-one}
+use Rattle.ckr_base.proofs.Options.{option_map_or-true, some-one}
 use Rattle.ckr_base.proofs.Sequences.{find-holds, find-passes}
 use Rattle.ckr_base.specs.declared.code.Code.{Code}
 use Rattle.ckr_events.specs.Jobs.{job_of}
@@ -42,7 +42,7 @@ use Rattle.ckr_desk_memory.specs.OwnSets.{CommitsItsOwn, IsRunningOf}
 use Rattle.ckr_desk_memory.specs.OwnSteps.{HasPoint, HavePoints, KnowsItsPoint}
 use Rattle.ckr_desk_memory.specs.RunningSteps.{GoesOn}
 use Rattle.ckr_desk_memory.specs.View.{PointView, RunningStepView}
-use Rattle.ckr_desk_memory.proofs.Holders.Events.{by-some, others-stay, tested}
+use Rattle.ckr_desk_memory.proofs.Holders.Events.{by-some, others-stay}
 use Rattle.ckr_desk_memory.proofs.Holders.Submissions.{row-before}
 use Rattle.ckr_desk_memory.proofs.Holders.Moves.{HasRow, by-own, by-row, row-as_is, row-next, row-number}
 use Rattle.ckr_desk_memory.proofs.Invariant.{hand-in_step, idle-between, in_step-within, not-within, restarts-in_step, running-in_step}
@@ -102,21 +102,21 @@ module _ (layout : Layout) (tables : TablesModel) (rows : AllByRecursion IsAccep
     gone-end : (ending : Ending) → ended_follows tables row ending ≡ true → Gone job (after_ended row ending tables)
     gone-end Completed follow = gone-ended tables job tables row row as_is mine
     gone-end (Coded code rule writes lengths) follow =
-        tested (own_step row) _ (and-second (is_running row || is_in_state Released row) _ follow)
+        option_map_or-true (own_step row) _ (and-second (is_running row || is_in_state Released row) _ follow)
         (λ owned found lengths_so.
         let step = step_in (place_of row) in
         let mid = after_commit row owned step writes lengths.items tables in
         by-own (Gone job) tables (λ owned step. after_abnormal (record row { place = Some (Within step writes) }) (Within step writes) (after_commit row owned step writes lengths.items tables)) row owned found
         (gone-abnormal tables job mid _ (record row { place = Some (Within step writes) }) (Within step writes) (row-next tables tables job row _ mid.sets as_is mine) mine (ap is_some found)))
     gone-end (Allocation dd cause first second) follow =
-        gone-abnormal tables job tables row row (place_of row) as_is mine (tested (own_step row) _ (and-second (is_in_state On row) _ follow) (λ owned found so. ap is_some found))
+        gone-abnormal tables job tables row row (place_of row) as_is mine (option_map_or-true (own_step row) _ (and-second (is_in_state On row) _ follow) (λ owned found so. ap is_some found))
 
     -- a restart at the start of the step leaves the checkpoint
     gone-restarted : (initiator : ℕ) → is_in_step row ≡ true → may_restart_again false row ≡ true → Gone job (by_step (λ owned step. after_restarted row owned step initiator false tables) row tables)
     gone-restarted initiator inside again =
         let its = step-of-within row its_placed (in_step-within row inside) in
         let step = step_in (place_of row) in
-        tested (point_at row.points step) _ again
+        option_map_or-true (point_at row.points step) _ again
         (λ point began few.
         let back : StartPoint → TablesModel =
         λ point. after_put_back (record (row_on initiator row) { points = with_start_point (point_restarted point) row.points; in_effect = None }) its.0 (back_to_start row its.0 step point) tables in
@@ -126,7 +126,7 @@ module _ (layout : Layout) (tables : TablesModel) (rows : AllByRecursion IsAccep
 
     gone-started : (step : ℕ) (items : List Made) → started_follows layout tables step items row ≡ true → Gone job (option_map_or (λ owned. after_started row owned step items tables) (step_of_run row step) tables)
     gone-started step items follow =
-        tested (step_of_run row step) _ (and-second (is_in_state On row) _ follow)
+        option_map_or-true (step_of_run row step) _ (and-second (is_in_state On row) _ follow)
         (λ owned found passes.
         let placed_so = placed_in table_ways (standing_of row tables) row.job.root owned in
         let between = not-within step (place_of row) (and-first (may_start step (place_of row)) _ (and-first (may_start step (place_of row) && is_empty (flaws_in placed_so)) _ passes)) in
@@ -136,7 +136,7 @@ module _ (layout : Layout) (tables : TablesModel) (rows : AllByRecursion IsAccep
 
     gone-step : (rc writes : ℕ) (lengths : List ℕ) → lengths_follow tables row lengths ≡ true → Gone job (by_step (λ owned step. after_step_ended row owned step rc writes lengths tables) row tables)
     gone-step rc writes lengths follow =
-        tested (own_step row) _ follow
+        option_map_or-true (own_step row) _ follow
         (λ owned found so.
         let step = step_in (place_of row) in
         let mid = after_commit row owned step writes lengths tables in
@@ -157,7 +157,7 @@ module _ (layout : Layout) (tables : TablesModel) (rows : AllByRecursion IsAccep
 
     known-rewritten : (writes : ℕ) (lengths : List ℕ) → is_running row ≡ true → lengths_follow tables row lengths ≡ true → StillKnown points (by_step (λ owned step. after_rewritten row owned step writes lengths tables) row tables)
     known-rewritten writes lengths runs follow =
-        tested (own_step row) _ follow
+        option_map_or-true (own_step row) _ follow
         (λ owned found so.
         let step = step_in (place_of row) in
         by-own (StillKnown points) tables (λ owned step. after_rewritten row owned step writes lengths tables) row owned found
@@ -173,7 +173,7 @@ module _ (layout : Layout) (tables : TablesModel) (rows : AllByRecursion IsAccep
     -- so does a hold, and the release of a held run
     known-held : (code : Code) (writes : ℕ) (lengths : List ℕ) → is_in_step row ≡ true → lengths_follow tables row lengths ≡ true → StillKnown points (by_step (λ owned step. after_held row owned step code writes lengths tables) row tables)
     known-held code writes lengths inside follow =
-        tested (own_step row) _ follow
+        option_map_or-true (own_step row) _ follow
         (λ owned found so.
         let step = step_in (place_of row) in
         by-own (StillKnown points) tables (λ owned step. after_held row owned step code writes lengths tables) row owned found

@@ -8,7 +8,7 @@ use Rattle.arrayvec.specs.ArrayVec.{ArrayVec}
 use Rattle.ckr_base.specs.declared.record.Rec.{Rec}
 use Rattle.ckr_base.proofs.Bools.{and-first, and-second}
 use Rattle.ckr_base.proofs.Numbers.{equal-false, equal-true, number-cases}
-use Rattle.ckr_base.proofs.Options.{some-one}
+use Rattle.ckr_base.proofs.Options.{option_map_or-true, some-one}
 use Rattle.ckr_base.proofs.Sequences.{each-implies, find-holds, find-passes}
 use Rattle.ckr_events.specs.Jobs.{job_of}
 use Rattle.ckr_events.specs.declared.event.Event.{Event}
@@ -31,7 +31,7 @@ use Rattle.ckr_volumes.specs.declared.layout.Layout.{Layout}
 use Rattle.ckr_desk_memory.proofs.Extents.{tested as tested-of, tested-step}
 use Rattle.ckr_desk_memory.proofs.Holders.Checkpoints.{check-behind, running-entered}
 use Rattle.ckr_desk_memory.proofs.Holders.Continuations.{continued-goes}
-use Rattle.ckr_desk_memory.proofs.Holders.Events.{any-goes, by-some, holders-stay, tested}
+use Rattle.ckr_desk_memory.proofs.Holders.Events.{any-goes, by-some, holders-stay}
 use Rattle.ckr_desk_memory.proofs.Holders.Submissions.{row-more}
 use Rattle.ckr_desk_memory.proofs.Holders.Moves.{by-own, by-row, row-as_is, row-next, row-number}
 use Rattle.ckr_desk_memory.proofs.Holders.OwnSets.{running-again, running-new, running-other, running-rewritten, running-same, running-served}
@@ -134,7 +134,7 @@ module _ (layout : Layout) (tables : TablesModel) (are : AreHolders tables) (row
 
   started : (job step : ℕ) (items : List Made) (old new : List RunningStepView) (row : RunRow) → run_of tables job ≡ Some row → started_follows layout tables step items row ≡ true → StartsWell job step old new (option_map_or (λ owned. after_started row owned step items tables) (step_of_run row step) tables)
   started job step items old new row at follow =
-      tested (step_of_run row step) _ (and-second (is_in_state On row) _ follow)
+      option_map_or-true (step_of_run row step) _ (and-second (is_in_state On row) _ follow)
       (λ owned found passes.
       by-some (StartsWell job step old new) (step_of_run row step) (λ owned. after_started row owned step items tables) tables owned found
       (λ starts holders others.

@@ -5,7 +5,7 @@ use Rattle.std.specs.List.{AllByRecursion}
 use Rattle.std.specs.Option.{option_map}
 use Rattle.std.proofs.lemmas.Bool.{false≢true}
 use Rattle.ckr_base.proofs.Bools.{bool-cases}
-use Rattle.ckr_base.proofs.Options.{some-not-none}
+use Rattle.ckr_base.proofs.Options.{and_then-some, some-not-none}
 use Rattle.ckr_base.specs.declared.programs.Heads.{Heads}
 use Rattle.ckr_base.specs.declared.programs.Output.{Output}
 use Rattle.ckr_base.specs.declared.programs.Output.TheVariants.{InPlace, Main, Rejects}
@@ -34,7 +34,7 @@ use Rattle.ckr_points.specs.Payload.{is_formed_step}
 use Rattle.ckr_points.specs.Restart.{place_of, step_in}
 use Rattle.ckr_points.specs.Rows.{TableSet, TablesModel, run_of}
 use Rattle.ckr_points.specs.Tables.{is_updates, name_with_role}
-use Rattle.ckr_points_invariant.proofs.Writes.Roles.{chained, is_right, target-among}
+use Rattle.ckr_points_invariant.proofs.Writes.Roles.{is_right, target-among}
 use Rattle.ckr_points_library.specs.Commit.{output_names}
 use Rattle.ckr_programs.specs.Steps as plain_steps
 use Rattle.ckr_programs.specs.Records.{can_take}
@@ -141,7 +141,7 @@ module _ (run : ℕ) (owned : OwnedStep) (formed : is_formed_step run owned ≡ 
   rejects_so : (other : Name) → (files_of run owned.owner owned.step).rejects ≡ Some other → is_among (output_names run owned) other ≡ true
   unfolding files_of
   rejects_so other e =
-      let one = chained (λ (dd : Dd). library_name dd run owned.owner owned.step.name) (dd_of_rejects owned.step) other e in
+      let one = and_then-some (λ (dd : Dd). library_name dd run owned.owner owned.step.name) (dd_of_rejects owned.step) other e in
       target-among the_start Rejects other one.0 formed
       (ap (λ program. is_right program Rejects) (update-is owned.step.program updates)) refl
       (record {

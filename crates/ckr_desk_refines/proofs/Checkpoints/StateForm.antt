@@ -3,12 +3,11 @@ use Rattle.std.proofs.Common.{◌≡◌, ◌≤◌, ◌<◌, ℕ, true, false, L
 use Rattle.std.specs.Prelude.{◌-◌, ◌^◌, ◌&&◌, IfSome, IsTrue, nat_le, nat_lt, sum_by, take_while}
 use Rattle.std.specs.List.{last_or}
 use Rattle.std.specs.Option.{option_map}
-use Rattle.std.proofs.lemmas.Bool.Decides.{nat_tests}
 use Rattle.std.proofs.lemmas.Bool.{and_from, false≢true}
 use Rattle.std.proofs.lemmas.List.Sums.{sum_by-cons}
 use Rattle.std.proofs.lemmas.Option.{same_Some}
 use Rattle.arrayvec.specs.ArrayVec.{ArrayVec}
-use Rattle.ckr_base.proofs.Numbers.{nat_le-from}
+use Rattle.ckr_base.proofs.Numbers.{nat_le-from, nat_lt-from}
 use Rattle.ckr_base.proofs.Options.{some-not-none}
 use Rattle.ckr_entry.specs.declared.point.State.{State}
 use Rattle.ckr_entry.specs.declared.point.State.TheVariants.{Plain, Matched}
@@ -76,9 +75,6 @@ module _ (s : ProgState) (case : ProgramCase) (taken entries : ℕ) (stands : Pl
 short-so : (most n : ℕ) → n ≤ most → (nat_le 0 n && nat_le n most) ≡ true
 short-so most n few = and_from (nat_le 0 n) (nat_le n most) (nat_le-from 0 n (omega arith)) (nat_le-from n most few)
 
-less-so : (one other : ℕ) → one < other → nat_lt one other ≡ true
-less-so one other less = grind (arith, nat_tests)
-
 key-fits : (its : ArrayVec ℕ) → length its.items ≤ 32 → key.fits its
 key-fits its few = ((omega (arith, few), short-so 32 (length its.items) few), refl)
 
@@ -134,7 +130,7 @@ module _ (s : MatchState) (case : ProgramCase) (taken entries : ℕ) (stands : M
       by None is its = tt
       by (Some at) is its =
           let below : at.0 < length (of_first (first_taken (match_case case) taken)) = last-below case.program (first_taken (match_case case) taken) at (sym stands.stands.last ∙ is) in
-          ((its.0, less-so at.0 s.first (subst (λ n. at.0 < n) (sym stands.stands.first) below)), record-fits at.1 its.1)
+          ((its.0, nat_lt-from at.0 s.first (subst (λ n. at.0 < n) (sym stands.stands.first) below)), record-fits at.1 its.1)
 
   held-fits : IsTypedMatch s → given_fits IsRecord s.held
   held-fits typed = by s.held typed.held

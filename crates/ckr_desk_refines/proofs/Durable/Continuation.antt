@@ -5,7 +5,7 @@ use Rattle.std.specs.Prelude.{◌==◌, find}
 use Rattle.std.specs.Option.{is_some, option_map_or}
 use Rattle.std.proofs.lemmas.Bool.{false≢true}
 use Rattle.ckr_base.proofs.Bools.{and-second, bool-cases}
-use Rattle.ckr_base.proofs.Numbers.{zero-not-suc}
+use Rattle.ckr_base.proofs.Numbers.{equal-apart, zero-not-suc}
 use Rattle.ckr_base.proofs.Options.{is_some-true, some-one}
 use Rattle.ckr_events.specs.declared.event.Event.TheVariants.{Selected}
 use Rattle.ckr_jcl.specs.declared.deck.Job.{Job}
@@ -26,7 +26,7 @@ use Rattle.ckr_points_invariant.proofs.Continuations.Fronts.{begins-alike}
 use Rattle.ckr_points_invariant.proofs.Continuations.SysoutNames.{sysout-listed}
 use Rattle.ckr_points_invariant.proofs.Holders.Places.{outputs-among}
 use Rattle.ckr_points_invariant.proofs.Holders.Rows.{run-other, run-same}
-use Rattle.ckr_points_invariant.proofs.Marks.Points.{among-filter, differs}
+use Rattle.ckr_points_invariant.proofs.Marks.Points.{among-filter}
 use Rattle.ckr_points_invariant.proofs.PutBack.Sets.{at-removed_all, put_back-apart}
 use Rattle.ckr_points_invariant.proofs.Select.Holders.{leg_there}
 use Rattle.ckr_points_invariant.proofs.WaitingRuns.{follows-of}
@@ -57,7 +57,7 @@ legs-apart now tables job numbered run apart = by (run_of tables job) refl
     by None e = refl
     by (Some row) e =
         leg_there (leg_by now row row.earlier) run now.legs
-        (differs (leg_by now row row.earlier).number run (λ same. apart (sym same ∙ leg-number now row row.earlier ∙ numbered row e)))
+        (equal-apart (leg_by now row row.earlier).number run (λ same. apart (sym same ∙ leg-number now row row.earlier ∙ numbered row e)))
 
 -- ---- the tables behind the event
 

@@ -2,10 +2,9 @@
 use Rattle.std.proofs.Common.{◌≡◌, ◌≤◌, ℕ, ◌+◌, Bool, true, false, cond, ◌&&◌, List, [], ◌∷◌, filter, refl, ap, sym, ◌∙◌, Option, Some, None, arith}
 use Rattle.std.specs.Prelude.{IsTrue, find, nat_le}
 use Rattle.std.specs.Option.{option_map, option_map_or, is_some}
-use Rattle.std.proofs.lemmas.Bool.{false≢true}
-use Rattle.std.proofs.lemmas.Option.{same_Some}
 use Rattle.ckr_base.proofs.Bools.{and-first, and-second}
 use Rattle.ckr_base.proofs.Numbers.{nat_le-from, nat_le-true}
+use Rattle.ckr_base.proofs.Sequences.{find-filter}
 use Rattle.ckr_entry.specs.declared.point.Mark.{Mark}
 use Rattle.ckr_entry.specs.declared.point.Present.{Present}
 use Rattle.ckr_library.specs.Catalog.{ends_within, records_of}
@@ -20,17 +19,6 @@ use Rattle.ckr_points.specs.Tables.{committed}
 use Rattle.ckr_points_invariant.proofs.PutBack.Sets.{back_to, changed_if, put_back-marked, put_back-none, to_catalog, to_length}
 
 -- ---- what a search finds
-
--- what is found first is found among those that are kept
-find-kept : {X : Type 0} (test keep : X → Bool) (xs : List X) (x : X) → find test xs ≡ Some x → keep x ≡ true → find test (filter keep xs) ≡ Some x
-find-kept test keep [] x at stays = at
-find-kept {X = X} test keep (first ∷ rest) x at stays = by (test first) (keep first) refl refl at (find-kept test keep rest x)
-  where
-    by : (b k : Bool) → test first ≡ b → keep first ≡ k → cond b (Some first) (find test rest) ≡ Some x → (find test rest ≡ Some x → keep x ≡ true → find test (filter keep rest) ≡ Some x) → find test (cond k (first ∷ filter keep rest) (filter keep rest)) ≡ Some x
-    by true true e k at later = ap (λ (b : Bool). cond b (Some first) (find test (filter keep rest))) e ∙ at
-    by true false e k at later = absurd (false≢true (sym k ∙ ap keep (same_Some first x at) ∙ stays))
-    by false true e k at later = ap (λ (b : Bool). cond b (Some first) (find test (filter keep rest))) e ∙ later at stays
-    by false false e k at later = later at stays
 
 -- ---- a data set by its name
 
@@ -72,7 +60,7 @@ module _ (first : Named TableSet) (set id : Name) (table : TableSet) (entry : Ke
     where
       by : (same : Bool) (found : Option TableSet) → (same ≡ true → ends_within now entry.kept ≡ true) → kept_in id found ≡ Some entry → kept_in id (cond same (option_map (cut_set now) found) found) ≡ Some entry
       by true None fits kept = kept
-      by true (Some table) fits kept = find-kept (has_id id) (λ (one : KeptEntry). ends_within now one.kept) table.entries entry kept (fits refl)
+      by true (Some table) fits kept = find-filter (has_id id) (λ (one : KeptEntry). ends_within now one.kept) table.entries entry kept (fits refl)
       by false found fits kept = kept
 
 -- committed lengths take no data set away
@@ -94,7 +82,7 @@ length-back : (most : ℕ) (id : Name) (entry : KeptEntry) (table : TableSet) �
 length-back most id entry table ends at = by (nat_le most table.set.length)
   where
     by : (shorter : Bool) → find (has_id id) (cond shorter (cut_set most table) table).entries ≡ Some entry
-    by true = find-kept (has_id id) (λ (one : KeptEntry). ends_within most one.kept) table.entries entry at ends
+    by true = find-filter (has_id id) (λ (one : KeptEntry). ends_within most one.kept) table.entries entry at ends
     by false = at
 
 catalog-back : (needed : Bool) (present : Present) (id : Name) (entry : KeptEntry) (table : TableSet) → find (has_id id) table.entries ≡ Some entry → find (has_id id) (changed_if needed (to_catalog present) table).entries ≡ Some entry

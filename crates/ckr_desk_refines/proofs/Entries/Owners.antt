@@ -2,7 +2,7 @@
 use Rattle.std.proofs.Common.{◌≡◌, ℕ, true, ◌&&◌, List, [], ◌∷◌, refl, ap, sym, ◌∙◌, subst, Option, Some}
 use Rattle.arrayvec.specs.ArrayVec.{ArrayVec}
 use Rattle.ckr_base.proofs.Bools.{and-first}
-use Rattle.ckr_base.proofs.Sequences.{each-append, each-implies}
+use Rattle.ckr_base.proofs.Sequences.{each-append, each-filter, each-implies}
 use Rattle.ckr_events.specs.declared.event.Event.{Event}
 use Rattle.ckr_events.specs.declared.event.Event.TheVariants.{Checkpointed}
 use Rattle.ckr_jcl.specs.declared.deck.Job.{Job}
@@ -26,11 +26,10 @@ use Rattle.ckr_desk_refines.proofs.Entries.Effects.{passes-of}
 use Rattle.ckr_desk_refines.proofs.Entries.Events.{event-each}
 use Rattle.ckr_desk_refines.proofs.Entries.Legs.{KeepLegs, legs-stay, tables-behind}
 use Rattle.ckr_desk_refines.proofs.Entries.Sets.{Stays}
-use Rattle.ckr_desk_refines.proofs.Entries.There.{filtered}
 
 owned-stays : (legs : List Leg) → Stays (HaveOwners legs)
 owned-stays legs = record {
-  cut = λ most table its. filtered (HasOwner legs) (λ (entry : KeptEntry). ends_within most entry.kept) table.entries its;
+  cut = λ most table its. each-filter (HasOwner legs) (λ (entry : KeptEntry). ends_within most entry.kept) table.entries its;
   marked = λ on table its. its;
   stamped = λ stamp table its. its;
   fresh = λ stamp placed parts. tt;

@@ -7,7 +7,7 @@ use Rattle.std.proofs.lemmas.Bool.{cases_lt}
 use Rattle.std.proofs.lemmas.List.{same_from_push}
 use Rattle.ckr_base.proofs.Numbers.{nat_le-true}
 use Rattle.ckr_base.proofs.Options.{is_some-from, option-cases, some-not-none}
-use Rattle.ckr_base.proofs.Sequences.{each-implies}
+use Rattle.ckr_base.proofs.Sequences.{each-both, each-filter, each-implies}
 use Rattle.ckr_jcl.specs.declared.deck.Kind.{Kind}
 use Rattle.ckr_library.specs.declared.sets.DataSet.{DataSet}
 use Rattle.ckr_library.specs.Catalog.{ends_within, records_of}
@@ -26,14 +26,6 @@ use Rattle.ckr_desk_refines.proofs.Entries.Sets.{Stays}
 
 -- ---- lists
 
-pub filtered : {X : Type 0} (P : X → Type 0) (keep : X → Bool) (xs : List X) → AllByRecursion P xs → AllByRecursion P (filter keep xs)
-filtered P keep [] each = tt
-filtered P keep (first ∷ rest) each =
-    elim (keep first) as (λ b. AllByRecursion P (cond b (first ∷ filter keep rest) (filter keep rest))) [
-      | true ↦ (each.0, filtered P keep rest each.1)
-      | false ↦ filtered P keep rest each.1
-    ]
-
 -- those that are kept pass
 pub passing : {X : Type 0} (keep : X → Bool) (xs : List X) → AllByRecursion (λ (x : X). IsTrue (keep x)) (filter keep xs)
 passing keep [] = tt
@@ -42,11 +34,6 @@ passing {X = X} keep (first ∷ rest) = by (passing keep rest) (keep first) refl
     by : AllByRecursion (λ (x : X). IsTrue (keep x)) (filter keep rest) → (b : Bool) → keep first ≡ b → AllByRecursion (λ (x : X). IsTrue (keep x)) (cond b (first ∷ filter keep rest) (filter keep rest))
     by later true e = (e, later)
     by later false e = later
-
--- two facts of each
-pub each-both : {X : Type 0} (P Q R : X → Type 0) (xs : List X) → ((x : X) → P x → Q x → R x) → AllByRecursion P xs → AllByRecursion Q xs → AllByRecursion R xs
-each-both P Q R [] both ps qs = tt
-each-both P Q R (x ∷ xs) both ps qs = (both x ps.0 qs.0, each-both P Q R xs both ps.1 qs.1)
 
 -- ---- records
 
@@ -84,7 +71,7 @@ module _ (layout : Layout) (legs : List Leg) (jobs : List Effective) (image : Li
   there-stays = record {
     cut = λ most table its.
         all-moved table.set (record table.set { length = most }) (filter (λ entry. ends_within most entry.kept) table.entries) (λ n. refl)
-        (filtered (IsEntryThere layout legs jobs image table.set) (λ entry. ends_within most entry.kept) table.entries its);
+        (each-filter (IsEntryThere layout legs jobs image table.set) (λ entry. ends_within most entry.kept) table.entries its);
     marked = λ on table its. all-moved table.set (record table.set { cataloged = on }) table.entries (λ n. refl) its;
     stamped = λ stamp table its. all-moved table.set (record table.set { stamp = stamp }) table.entries (λ n. refl) its;
     fresh = λ stamp placed parts. tt;

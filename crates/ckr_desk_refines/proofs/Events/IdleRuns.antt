@@ -6,7 +6,7 @@ use Rattle.std.proofs.lemmas.Bool.{false≢true}
 use Rattle.arrayvec.specs.ArrayVec.{ArrayVec}
 use Rattle.ckr_base.specs.declared.code.Code.{Code}
 use Rattle.ckr_base.proofs.Bools.{and-first, and-second}
-use Rattle.ckr_base.proofs.Options.{option-cases, some-not-none, some-one}
+use Rattle.ckr_base.proofs.Options.{option-cases, option_map_or-true, some-not-none, some-one}
 use Rattle.ckr_events.specs.declared.event.Ending.{Ending}
 use Rattle.ckr_events.specs.declared.event.Ending.TheVariants.{Allocation, Coded, Completed}
 use Rattle.ckr_events.specs.declared.event.Event.TheVariants.{Cancelled, Ended, Restarted, Started, StepEnded}
@@ -26,7 +26,7 @@ use Rattle.ckr_points_invariant.specs.Invariant.{IsAgreed}
 use Rattle.ckr_points_invariant.specs.Readiness.{AreReady}
 use Rattle.ckr_points_invariant.proofs.Steps.Events.{led-by, on-holds}
 use Rattle.ckr_points_invariant.proofs.WaitingRuns.{follows-of, tested-run}
-use Rattle.ckr_desk_memory.proofs.Holders.Events.{by-some, tested}
+use Rattle.ckr_desk_memory.proofs.Holders.Events.{by-some}
 use Rattle.ckr_desk_memory.proofs.Holders.Moves.{HasRow, by-own, by-row, row-as_is, row-next}
 use Rattle.ckr_volumes.specs.declared.layout.Layout.{Layout}
 use Rattle.ckr_desk_memory.specs.Invariant.{is_in_step}
@@ -132,7 +132,7 @@ module _ (layout : Layout) (now : Office) (agreed : IsAgreed layout now) (ready 
       tested-run tables job (started_follows layout tables step items.items) (follows-of layout now (Started job step items) None may)
       (λ row at passes.
       by-row Idle tables job (λ row. option_map_or (λ owned. after_started row owned step items.items tables) (step_of_run row step) tables) row at
-      (tested (step_of_run row step) _ (and-second (is_in_state On row) _ passes)
+      (option_map_or-true (step_of_run row step) _ (and-second (is_in_state On row) _ passes)
       (λ owned found ready_so.
       let placed_so = placed_in table_ways (standing_of row tables) row.job.root owned in
       let out : is_within (place_of row) ≡ false = out-of-step step (place_of row) (and-first (may_start step (place_of row)) _ (and-first (may_start step (place_of row) && is_empty (flaws_in placed_so)) _ ready_so)) in
@@ -151,7 +151,7 @@ module _ (layout : Layout) (now : Office) (agreed : IsAgreed layout now) (ready 
       by-row Idle tables job (λ row. by_step (λ owned step. after_restarted row owned step initiator false tables) row tables) row at
       (idle-step (λ owned step. after_restarted row owned step initiator false tables) row at
       (λ owned found.
-      tested (point_at row.points (step_in (place_of row))) _ (and-second (is_running row && option_eq nat_eq row.initiator (Some initiator) || is_in_state Released row && is_free layout tables initiator) _ passes)
+      option_map_or-true (point_at row.points (step_in (place_of row))) _ (and-second (is_running row && option_eq nat_eq row.initiator (Some initiator) || is_in_state Released row && is_free layout tables initiator) _ passes)
       (λ point begun few.
       by-some Idle (point_at row.points (step_in (place_of row))) (back initiator row owned) tables point begun
       (idle-row (back initiator row owned point) _ (row-next tables tables job row _ (back initiator row owned point).sets (as_is row at) (agreed.numbered job row at)).now (λ runs. refl))))))

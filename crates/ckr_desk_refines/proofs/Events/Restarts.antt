@@ -7,7 +7,7 @@ use Rattle.std.proofs.lemmas.Bool.{and_from}
 use Rattle.std.proofs.lemmas.Option.{same_Some}
 use Rattle.ckr_base.specs.declared.code.Code.{Code}
 use Rattle.ckr_base.proofs.Bools.{and-first, and-second}
-use Rattle.ckr_base.proofs.Options.{some-one}
+use Rattle.ckr_base.proofs.Options.{option_map_or-true, some-one}
 use Rattle.ckr_events.specs.declared.event.Event.TheVariants.{Restarted}
 use Rattle.ckr_meaning.specs.EffectiveJob.{OwnedStep, names_of}
 use Rattle.ckr_meaning.specs.JobRun.{start_at}
@@ -28,7 +28,7 @@ use Rattle.ckr_desk_memory.specs.EventChanges.{is_point_of, without_run}
 use Rattle.ckr_desk_memory.specs.Invariant.{is_in_step}
 use Rattle.ckr_desk_memory.specs.RunningSteps.{StepGoesBack}
 use Rattle.ckr_desk_memory.specs.View.{PointView, RunningStepView}
-use Rattle.ckr_desk_memory.proofs.Holders.Events.{by-some, tested}
+use Rattle.ckr_desk_memory.proofs.Holders.Events.{by-some}
 use Rattle.ckr_desk_memory.proofs.Holders.Moves.{by-own, by-row, row-as_is, row-next}
 use Rattle.ckr_desk_turn.specs.Desk.{DeskModel, DeskStep, at_entry, behind, running_again, start_of, without_run as without_steps}
 use Rattle.ckr_desk_turn.specs.Invariant.{IsDesk, IsGoing}
@@ -107,7 +107,7 @@ module _ (desk : DeskModel) (is : IsDesk desk) (job initiator : ℕ) (code : Cod
       let running : is_in_step row ≡ true =
       led-by desk.layout desk.office job row is.kept.events at (running-holds row goes)
       (λ leg holder. and_from (is_holder row.state) (is_within (place_of row)) (running-holds row goes) (running-within tables row leg (is.kept.events.places job row leg holder) goes)) in
-      tested row.in_effect _ (and-second (is_running row && option_eq nat_eq row.initiator (Some initiator) || is_in_state Released row && is_free desk.layout tables initiator) _ passes)
+      option_map_or-true row.in_effect _ (and-second (is_running row && option_eq nat_eq row.initiator (Some initiator) || is_in_state Released row && is_free desk.layout tables initiator) _ passes)
       (λ effect got few. run-back row at running effect got))
 
   -- the step with which it goes on at the desk

@@ -25,6 +25,7 @@ use Rattle.ckr_points.specs.Payload.{is_orderly_at, is_orderly_dd}
 use Rattle.ckr_points.specs.RuleCases.{is_ended}
 use Rattle.ckr_points.specs.Rows.{RunRow, TableSet, run_of}
 use Rattle.ckr_points.proofs.NeededNames.{spliced-from}
+use Rattle.ckr_uses.proofs.RunNames.{run_name-same}
 use Rattle.ckr_points_invariant.specs.JobNames.{IsKin, IsNameOf, has_ended}
 use Rattle.ckr_points_invariant.specs.KeptEvents.{AreKept}
 use Rattle.ckr_points_invariant.specs.StartedSteps.{HasBegunSteps}
@@ -34,7 +35,7 @@ use Rattle.ckr_points_invariant.proofs.Continuations.LostNames.{kept-exists}
 use Rattle.ckr_points_invariant.proofs.Continuations.ReachedNames.Statements.{step-names-same}
 use Rattle.ckr_points_invariant.proofs.Decks.Events.{row-orderly}
 use Rattle.ckr_points_invariant.proofs.Decks.Names.{orderly-number}
-use Rattle.ckr_points_invariant.proofs.Holders.DeckNames.{deck-named, run_name-same, run_names-long}
+use Rattle.ckr_points_invariant.proofs.Holders.DeckNames.{deck-named, run_names-long}
 use Rattle.ckr_points_invariant.proofs.Holders.NamesInCommon.{InCommon, IsWritten, TellsApart, by_owner, by_root, in-common, written}
 use Rattle.ckr_points_invariant.proofs.Holders.Rows.{leg-number, queued-is}
 use Rattle.ckr_points_invariant.proofs.Library.PassedList.{made-without}

@@ -6,6 +6,7 @@ use Rattle.std.proofs.lemmas.Bool.{false≢true}
 use Rattle.ckr_base.specs.declared.programs.NextDue.{NextDue}
 use Rattle.ckr_base.specs.declared.programs.NextDue.TheVariants.{Unit as OneUnit, Checkpoint, Cancel, Finished}
 use Rattle.ckr_base.proofs.Options.{some-not-none}
+use Rattle.ckr_base.proofs.Bools.{and-false}
 use Rattle.ckr_desk_memory.specs.EventChanges.{is_of_run, served_in, served_step, without_first}
 use Rattle.ckr_desk_memory.specs.View.{RunningStepView}
 use Rattle.ckr_meaning.specs.StepRun.{StepStart, work_at}
@@ -46,15 +47,11 @@ cancel-due rc true checkpoint cancel due = absurd (false≢true due)
 cancel-due rc false true cancel due = absurd (false≢true due)
 cancel-due rc false false cancel due = refl
 
-and-none : (b : Bool) → (b && false) ≡ false
-and-none true = refl
-and-none false = refl
-
 -- a checkpoint that is done isn't due
 pub checkpoint-once : (start : StepStart) (progress : StepProgress) → next_due start (checkpoint_done progress) ≡ Checkpoint → ⊥
 checkpoint-once start progress again =
     none-due (rc_by (work_at start).finish) progress.closed (is_checkpoint_count start.owned.step.parm progress.taken && false) (is_cancel_count start.owned.step.parm progress.taken && not progress.cancelled)
-    (and-none (is_checkpoint_count start.owned.step.parm progress.taken)) (ap is_checkpoint_due again)
+    (and-false (is_checkpoint_count start.owned.step.parm progress.taken)) (ap is_checkpoint_due again)
 
 -- nor is one due behind a cancel
 cancel-once : (start : StepStart) (progress : StepProgress) → next_due start progress ≡ Cancel → next_due start (cancel_done progress) ≡ Checkpoint → ⊥

@@ -2,7 +2,6 @@
 use Rattle.std.proofs.Common.{◌≡◌, ◌≤◌, ◌<◌, ◌+◌, ◌/◌, ◌%◌, ◌^◌, ℕ, zero, suc, true, false, cond, ◌&&◌, nat_le, List, [], ◌∷◌, ◌++◌, length, replicate, refl, ap, sym, ◌∙◌, subst, arith, append_assoc, append-nil}
 use Rattle.std.proofs.Math.Nat.{pow-suc}
 use Rattle.std.proofs.lemmas.Bool.{and_from}
-use Rattle.std.proofs.lemmas.Bool.Decides.{nat_tests}
 use Rattle.std.proofs.lemmas.List.{length-append, replicate-append-replicate}
 use Rattle.std.proofs.lemmas.List.Folds.{list_all-append}
 use Rattle.std.specs.Prelude.{◌==◌}
@@ -11,21 +10,11 @@ use Rattle.ckr_base.specs.Digits.{decimal_text, last_digits, significant}
 use Rattle.ckr_base.specs.Grammar.{is_check_id, is_name_byte}
 use Rattle.ckr_base.proofs.Bools.{and-first, and-second}
 use Rattle.ckr_base.proofs.Numbers.{nat_le-from, nat_le-true, plus-one}
+use Rattle.ckr_base.proofs.NameBytes.{digits-length, digits-named}
 use Rattle.ckr_points_decks.specs.DeckLimits.{are_ids}
 use Rattle.ckr_desk_turn.specs.Checkpoints.{id_by}
 
 -- ---- digits
-
-digit : (n : ℕ) → is_name_byte (48 + n % 10) ≡ true
-digit n = grind (arith, nat_tests)
-
-digits-named : (count number : ℕ) → list_all is_name_byte (last_digits count number) ≡ true
-digits-named zero number = refl
-digits-named (suc count) number = list_all-append is_name_byte (last_digits count (number / 10)) ((48 + number % 10) ∷ []) ∙ grind (arith, digit number, digits-named count (number / 10))
-
-digits-count : (count number : ℕ) → length (last_digits count number) ≡ count
-digits-count zero number = refl
-digits-count (suc count) number = length-append (last_digits count (number / 10)) ((48 + number % 10) ∷ []) ∙ omega (arith, digits-count count (number / 10))
 
 none-left : (count : ℕ) → last_digits count 0 ≡ replicate count 48
 none-left zero = refl
@@ -74,7 +63,7 @@ significant-named (digit ∷ rest) named =
 decimal-is : (number : ℕ) → number ≤ 9999999 → decimal_text number ≡ significant (last_digits 7 number)
 decimal-is number most =
     let small : number < 10000000 = omega arith in
-    ap significant (before-small 7 15 22 number refl small) ∙ skipped 15 (last_digits 7 number) (omega (arith, digits-count 7 number))
+    ap significant (before-small 7 15 22 number refl small) ∙ skipped 15 (last_digits 7 number) (omega (arith, digits-length 7 number))
 
 -- ---- identifiers
 
@@ -85,10 +74,10 @@ text-holds text some few named =
 
 pub id-holds : (ids : List ℕ) (in_run in_step : ℕ) → are_ids ids ≡ true → in_step ≤ 9999999 → is_check_id (id_by ids in_run in_step) ≡ true
 id-holds [] in_run in_step are most =
-    let seven : length (last_digits 7 in_run) ≡ 7 = digits-count 7 in_run in
+    let seven : length (last_digits 7 in_run) ≡ 7 = digits-length 7 in_run in
     text-holds (67 ∷ last_digits 7 in_run) (omega arith) (omega arith) (digits-named 7 in_run)
 id-holds (first ∷ rest) in_run in_step are most =
-    let seven : length (last_digits 7 in_step) ≡ 7 = digits-count 7 in_step in
+    let seven : length (last_digits 7 in_step) ≡ 7 = digits-length 7 in_step in
     let shorter : length (significant (last_digits 7 in_step)) ≤ length (last_digits 7 in_step) = significant-short (last_digits 7 in_step) in
     let eight : suc (length rest) ≤ 8 = nat_le-true (suc (length rest)) 8 (and-first (nat_le (suc (length rest)) 8) (list_all is_name_byte (first ∷ rest)) are) in
     let whole : length ((first ∷ rest) ++ significant (last_digits 7 in_step)) ≡ suc (length rest) + length (significant (last_digits 7 in_step)) = length-append (first ∷ rest) (significant (last_digits 7 in_step)) in

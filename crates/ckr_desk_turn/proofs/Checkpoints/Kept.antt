@@ -1,31 +1,12 @@
 -- The data set for checkpoints keeps the entry that was written, with its point.
-use Rattle.std.proofs.Common.{◌≡◌, ℕ, Bool, true, false, cond, List, [], ◌∷◌, ◌++◌, filter, find, refl, ap, sym, ◌∙◌, Option, Some, None}
+use Rattle.std.proofs.Common.{◌≡◌, ℕ, Bool, true, false, cond, List, [], ◌∷◌, filter, find, refl, ap, sym, ◌∙◌, Option, Some, None}
 use Rattle.std.specs.Option.{option_map, option_map_or}
-use Rattle.ckr_base.proofs.Options.{some-not-none}
+use Rattle.ckr_base.proofs.Sequences.{find-append, find-filter-none}
 use Rattle.ckr_library.specs.NameMaps.{Name, Named, entry_at, same_name, with_changed}
 use Rattle.ckr_library.proofs.Named.{at-with_changed, name-itself}
 use Rattle.ckr_points.specs.Restart.{kept_at}
 use Rattle.ckr_points.specs.Rows.{KeptEntry, TableSet, cut_set}
 use Rattle.ckr_points.specs.Tables.{committed, with_kept_entry}
-
--- what isn't found is found in no part
-filter-none : {X : Type 0} (test keep : X → Bool) (xs : List X) → find test xs ≡ None → find test (filter keep xs) ≡ None
-filter-none test keep [] none = refl
-filter-none test keep (first ∷ rest) none = by (test first) (keep first) refl none (filter-none test keep rest)
-  where
-    by : (b k : Bool) → test first ≡ b → cond b (Some first) (find test rest) ≡ None → (find test rest ≡ None → find test (filter keep rest) ≡ None) → find test (cond k (first ∷ filter keep rest) (filter keep rest)) ≡ None
-    by true k is none later = absurd (some-not-none first none)
-    by false true is none later = ap (λ (b : Bool). cond b (Some first) (find test (filter keep rest))) is ∙ later none
-    by false false is none later = later none
-
--- one more that passes, behind some that don't
-find-last : {X : Type 0} (test : X → Bool) (xs : List X) (x : X) → find test xs ≡ None → test x ≡ true → find test (xs ++ x ∷ []) ≡ Some x
-find-last test [] x none passes = ap (λ (b : Bool). cond b (Some x) None) passes
-find-last test (first ∷ rest) x none passes = by (test first) none (λ none. find-last test rest x none passes)
-  where
-    by : (b : Bool) → cond b (Some first) (find test rest) ≡ None → (find test rest ≡ None → find test (rest ++ x ∷ []) ≡ Some x) → cond b (Some first) (find test (rest ++ x ∷ [])) ≡ Some x
-    by true none later = absurd (some-not-none first none)
-    by false none later = later none
 
 abbrev has_id : Name → KeptEntry → Bool
 has_id id entry = same_name entry.kept.id id
@@ -41,7 +22,7 @@ keeps-none (name ∷ names) (most ∷ lengths) sets set id none =
   where
     by : (same : Bool) (entry : Option TableSet) → option_map_or (λ table. find (has_id id) table.entries) entry None ≡ None → option_map_or (λ table. find (has_id id) table.entries) (cond same (option_map (cut_set most) entry) entry) None ≡ None
     by true None none = refl
-    by true (Some table) none = filter-none (has_id id) _ table.entries none
+    by true (Some table) none = find-filter-none (has_id id) _ table.entries none
     by false entry none = none
 
 -- and they take no data set away
@@ -69,4 +50,4 @@ kept-then names lengths sets set table entry found none =
     (at-with_changed set set (with_kept_entry entry) (committed names lengths sets)
     ∙ ap (λ (b : Bool). cond b (option_map (with_kept_entry entry) (entry_at (committed names lengths sets) set)) (entry_at (committed names lengths sets) set)) (name-itself set)
     ∙ ap (option_map (with_kept_entry entry)) there.1)
-    ∙ find-last (has_id entry.kept.id) later.entries entry before (name-itself entry.kept.id)
+    ∙ find-append (has_id entry.kept.id) later.entries entry before (name-itself entry.kept.id)

@@ -4,10 +4,10 @@ use Rattle.std.specs.Prelude.{◌==◌}
 use Rattle.std.specs.List.{list_any}
 use Rattle.std.specs.Option.{is_none, option_map_or}
 use Rattle.std.proofs.lemmas.Bool.{or_left, or_right}
-use Rattle.ckr_base.proofs.Bools.{bool-cases}
+use Rattle.ckr_base.proofs.Bools.{and-false, bool-cases}
 use Rattle.ckr_base.proofs.Numbers.{equal-itself, equal-true, number-cases}
 use Rattle.ckr_base.proofs.Options.{is_some-true, some-one}
-use Rattle.ckr_base.proofs.Sequences.{each-implies}
+use Rattle.ckr_base.proofs.Sequences.{each-filter, each-implies}
 use Rattle.ckr_events.specs.declared.event.Event.TheVariants.{Denied as DeniedEvent, Selected as SelectedEvent}
 use Rattle.ckr_library.specs.NameMaps.{Name}
 use Rattle.ckr_meaning.specs.EffectiveJob.{step_at}
@@ -35,7 +35,6 @@ use Rattle.ckr_desk_turn.specs.Desk.{DeskModel, DeskStep, at_entry, behind, runn
 use Rattle.ckr_desk_turn.specs.Invariant.{IsAdmitted, IsDesk, IsFailed, IsGoing, IsOpen, is_accounted, is_on_one}
 use Rattle.ckr_desk_turn.specs.NextEvents.{Comes}
 use Rattle.ckr_desk_turn.specs.Restarts.{GoesOnBy}
-use Rattle.ckr_desk_turn.proofs.Moves.{all-filtered}
 use Rattle.ckr_desk_turn.proofs.Opening.{has-runs}
 use Rattle.ckr_desk_turn.proofs.OtherRuns.{Changes, each_row, row-admitted, row-in-state, running-same, step-there}
 use Rattle.ckr_desk_turn.proofs.Readiness.{desk-kept, kept-on}
@@ -74,10 +73,6 @@ denied-keeps desk is row rule name at queued comes =
     of_tables number = ap (λ (o : Option RunRow). run_of (option_map_or (λ row. with_run (record row { state = Denied }) desk.office.tables) o desk.office.tables) number) at
 
 -- ---- a run goes on with an earlier one
-
-and-none : (b : Bool) → (b && false) ≡ false
-and-none true = refl
-and-none false = refl
 
 leg-number : (office : Office) (row : RunRow) (earlier : ℕ) → (leg_by office row earlier).number ≡ row.number
 leg-number office row zero = refl
@@ -161,7 +156,7 @@ module _ (desk : DeskModel) (is : IsDesk desk) (job initiator before step : ℕ)
               admitted = row.admitted;
               rests =
                   ap (λ (o : Option Place). is_in_state On stands.row && is_within (option_map_or (λ (place : Place). place) o (Before 1))) stands.stands
-                  ∙ and-none (is_in_state On stands.row);
+                  ∙ and-false (is_in_state On stands.row);
               stepped = row.stepped;
               spaced = all.spaced;
               spaced_legs = all.spaced_legs;
@@ -253,7 +248,7 @@ module _ (desk : DeskModel) (is : IsDesk desk) (job initiator before step : ℕ)
       let stays = stay desk is job initiator before step (Some id) comes in
       record {
         kept = on_kept.kept;
-        going = (entry-going, all-filtered (IsGoing then) (λ (step : DeskStep). not (step.run == job)) desk.running (each-implies (IsGoing desk.office) (IsGoing then) desk.running (going-stays desk is then stays) is.going));
+        going = (entry-going, each-filter (IsGoing then) (λ (step : DeskStep). not (step.run == job)) desk.running (each-implies (IsGoing desk.office) (IsGoing then) desk.running (going-stays desk is then stays) is.going));
         failed = each-implies (IsFailed desk.office) (IsFailed then) desk.failed (failed-stays desk is then stays) is.failed;
         states = all.states;
         admitted = all.admitted;

@@ -1,11 +1,11 @@
 -- The earlier run by which a deferred restart is judged: the latest one of its job name, and the number of the step that it executed itself.
 use Rattle.std.proofs.Common.{◌≡◌, ◌≤◌, ◌<◌, ◌+◌, ℕ, zero, suc, pred, Bool, true, ◌&&◌, not, cond, List, [], ◌∷◌, filter, drop, length, slice_get, refl, ap, sym, ◌∙◌, subst, Option, Some, None, arith}
 use Rattle.std.specs.Prelude.{position}
-use Rattle.std.specs.List.{AllByRecursion, last_or, position_or_len}
+use Rattle.std.specs.List.{position_or_len}
 use Rattle.std.specs.Option.{option_map_or}
 use Rattle.ckr_base.proofs.Bools.{and-first, and-second, bool-cases}
 use Rattle.ckr_base.proofs.Options.{some-not-none}
-use Rattle.ckr_base.proofs.Sequences.{position-some}
+use Rattle.ckr_base.proofs.Sequences.{each-by_place, each-passes, last-holds, position-some}
 use Rattle.ckr_library.specs.NameMaps.{Name, same_name}
 use Rattle.ckr_meaning.specs.EffectiveJob.{OwnedStep, step_at}
 use Rattle.ckr_volumes.specs.declared.layout.Layout.{Layout}
@@ -15,25 +15,8 @@ use Rattle.ckr_points.specs.Rows.{RunRow, run_of}
 use Rattle.ckr_points_invariant.specs.KeptEvents.{AreKept}
 use Rattle.ckr_desk_turn.specs.Invariant.{IsAdmitted}
 use Rattle.ckr_desk_turn.proofs.Deferred.StepNames.{deck-apart, same-place}
-use Rattle.ckr_desk_turn.proofs.OtherRuns.{every-by}
 
 -- ---- lists
-
--- what holds of each holds of each that is kept, and it passes
-kept-passes : {X : Type 0} (P : X → Type 0) (test : X → Bool) (xs : List X) → AllByRecursion P xs → AllByRecursion (λ x. P x × (test x ≡ true)) (filter test xs)
-kept-passes P test [] each = tt
-kept-passes P test (x ∷ xs) each =
-    bool-cases (test x)
-    (λ does. subst (λ b. AllByRecursion (λ x. P x × (test x ≡ true)) (cond b (x ∷ filter test xs) (filter test xs))) (sym does) ((each.0, does), kept-passes P test xs each.1))
-    (λ isnt. subst (λ b. AllByRecursion (λ x. P x × (test x ≡ true)) (cond b (x ∷ filter test xs) (filter test xs))) (sym isnt) (kept-passes P test xs each.1))
-
--- what holds of each holds of the last one
-last-holds : {X : Type 0} (P : X → Type 0) (o : Option X) (xs : List X) (x : X) → ((y : X) → o ≡ Some y → P y) → AllByRecursion P xs → last_or o xs ≡ Some x → P x
-last-holds P o [] x first each last = first x last
-last-holds P o (y ∷ ys) x first each last = last-holds P (Some y) ys x (λ z same. subst P (is z same) each.0) each.1 last
-  where
-    is : (z : _) → Some y ≡ Some z → y ≡ z
-    is z e = cc
 
 -- what stands at the first place that passes
 place-passes : {X : Type 0} (test : X → Bool) (xs : List X) (place : ℕ) → place ≡ position_or_len test xs → place < length xs → (x : X) × (slice_get xs place ≡ Some x) × (test x ≡ true)
@@ -60,8 +43,8 @@ latest-at layout office are name other is =
     let test : RunRow → Bool = λ row. was_selected row && same_name row.deck.name name in
     let Its : RunRow → Type 0 = λ row. (run_of office.tables row.number ≡ Some row) × (test row ≡ true) in
     let its = last-holds Its None (filter test office.tables.runs) other (λ row none. absurd (some-not-none row (sym none)))
-    (kept-passes (λ (row : RunRow). run_of office.tables row.number ≡ Some row) test office.tables.runs
-    (every-by (λ (row : RunRow). run_of office.tables row.number ≡ Some row) office.tables.runs (λ place row at. ap (run_of office.tables) (are.kept.events.numbered (suc place) row at) ∙ at))) is in
+    (each-passes (λ (row : RunRow). run_of office.tables row.number ≡ Some row) test office.tables.runs
+    (each-by_place (λ (row : RunRow). run_of office.tables row.number ≡ Some row) office.tables.runs (λ place row at. ap (run_of office.tables) (are.kept.events.numbered (suc place) row at) ∙ at))) is in
     (its.0, and-first (was_selected other) _ its.1, and-second (was_selected other) _ its.1)
 
 -- ---- the step of a name

@@ -6,7 +6,7 @@ use Rattle.std.specs.Option.{option_map}
 use Rattle.std.proofs.lemmas.Bool.{false≢true, or_parts}
 use Rattle.std.proofs.lemmas.List.Folds.{list_any-append}
 use Rattle.std.proofs.lemmas.Slice.Eq.{bytes_eq-Decides}
-use Rattle.ckr_base.proofs.Options.{some-not-none}
+use Rattle.ckr_base.proofs.Options.{option_or-none, some-not-none}
 use Rattle.ckr_base.proofs.Sequences.{each-get, each-implies}
 use Rattle.ckr_jcl.specs.Text.{if_holds}
 use Rattle.ckr_jcl.specs.declared.deck.Job.{Job}
@@ -16,7 +16,7 @@ use Rattle.ckr_jcl_decks.specs.Deck.{job_of, step_of, step_with, stored_deck}
 use Rattle.ckr_jcl_decks.specs.DeckFaults.{has_step_name, repeated_dd, repeated_in, repeated_name}
 use Rattle.ckr_jcl_decks.specs.Parts.StepText.{StepText}
 use Rattle.ckr_points_decks.proofs.Clashes.{if_none}
-use Rattle.ckr_points_decks.proofs.DeckTests.{OfStep, or_none, steps_hold}
+use Rattle.ckr_points_decks.proofs.DeckTests.{OfStep, steps_hold}
 use Rattle.ckr_points_decks.proofs.Texts.{IsReadFrom, read_from}
 
 -- ---- the texts of the steps
@@ -34,8 +34,8 @@ stands-last own steps test none = (or_parts (test own) false (or_parts (list_any
 apart-behind : (own : StepText) (before rest : List StepText) → StandsIn own before → repeated_in before rest ≡ None → AllByRecursion (λ (later : StepText). bytes_eq own.name later.name ≡ false) rest
 apart-behind own before [] there none = tt
 apart-behind own before (step ∷ rest) there none =
-    let one = or_none (if_holds (list_any (has_step_name step.name) before) step.card) _ none in
-    let both = or_none (repeated_dd [] step.dds) (repeated_in (before ++ step ∷ []) rest) one.1 in
+    let one = option_or-none (if_holds (list_any (has_step_name step.name) before) step.card) _ none in
+    let both = option_or-none (repeated_dd [] step.dds) (repeated_in (before ++ step ∷ []) rest) one.1 in
     (there (has_step_name step.name) (if_none (list_any (has_step_name step.name) before) step.card one.0), apart-behind own (before ++ step ∷ []) rest (stands-more own step before there) both.1)
 
 -- ---- the steps
@@ -56,8 +56,8 @@ named-as text kind = refl
 texts-apart : (before texts : List StepText) → repeated_in before texts ≡ None → AreApart (filter_map step_of texts)
 texts-apart before [] none = tt
 texts-apart before (text ∷ rest) none =
-    let one = or_none (if_holds (list_any (has_step_name text.name) before) text.card) _ none in
-    let both = or_none (repeated_dd [] text.dds) (repeated_in (before ++ text ∷ []) rest) one.1 in
+    let one = option_or-none (if_holds (list_any (has_step_name text.name) before) text.card) _ none in
+    let both = option_or-none (repeated_dd [] text.dds) (repeated_in (before ++ text ∷ []) rest) one.1 in
     by text.program (apart-behind text (before ++ text ∷ []) rest (stands-last text before) both.1) (texts-apart (before ++ text ∷ []) rest both.1)
   where
     by : (program : Option Kind) → AllByRecursion (λ (later : StepText). bytes_eq text.name later.name ≡ false) rest → AreApart (filter_map step_of rest) → AreApart (cons_option (option_map (step_with text) program) (filter_map step_of rest))

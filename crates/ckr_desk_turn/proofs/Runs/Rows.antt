@@ -4,7 +4,7 @@ use Rattle.std.specs.List.{AllByRecursion, list_all}
 use Rattle.std.proofs.lemmas.Option.{same_Some}
 use Rattle.ckr_base.proofs.Numbers.{number-cases}
 use Rattle.ckr_base.proofs.Options.{some-not-none}
-use Rattle.ckr_base.proofs.Sequences.{all-get, each-get}
+use Rattle.ckr_base.proofs.Sequences.{all-get, each-by_place, each-get}
 use Rattle.ckr_library.specs.NameMaps.{Named}
 use Rattle.ckr_meaning.specs.LibrarySet.{AreWithinSpace}
 use Rattle.ckr_points.specs.Office.{Leg, Office}
@@ -14,7 +14,7 @@ use Rattle.ckr_volumes.specs.declared.layout.Layout.{Layout}
 use Rattle.ckr_points_invariant.specs.Invariant.{IsKept}
 use Rattle.ckr_points_invariant.specs.KeptEvents.{AreKept}
 use Rattle.ckr_desk_turn.specs.Invariant.{HasRuns, IsAdmitted, has_its_step, is_in_its_state}
-use Rattle.ckr_desk_turn.proofs.OtherRuns.{all-by, every-by}
+use Rattle.ckr_desk_turn.proofs.OtherRuns.{all-by}
 
 -- what the events of a desk have brought about, its points aside
 pub record HasRows (office : Office) : Type 0 where
@@ -86,7 +86,7 @@ stands-more tables after sets job row next stands its = record {
 pub runs-renewed : (office after : Office) (job : ℕ) → HasRows office → Renewed office.tables after.tables job → AreWithinSpace after.library → AllByRecursion (λ (leg : Leg). AreWithinSpace leg.start) after.legs → HasRows after
 runs-renewed office after job has renewed spaced spaced_legs = record {
   states = all-by is_in_its_state after.tables.runs (λ place row at. (each place row at).in_state);
-  admitted = every-by IsAdmitted after.tables.runs (λ place row at. (each place row at).admitted);
+  admitted = each-by_place IsAdmitted after.tables.runs (λ place row at. (each place row at).admitted);
   stepped = all-by has_its_step after.tables.runs (λ place row at. (each place row at).stepped);
   spaced = spaced;
   spaced_legs = spaced_legs;

@@ -3,10 +3,9 @@ use Rattle.std.proofs.Common.{◌≡◌, ◌≤◌, ◌<◌, ◌+◌, ◌-◌, �
 use Rattle.std.specs.Prelude.{◌==◌, nat_le}
 use Rattle.std.specs.List.{cons_option, filter_map, list_any, range_with_len, sum_by}
 use Rattle.std.specs.Option.{is_some, option_map, option_map_or}
-use Rattle.std.proofs.lemmas.Bool.Decides.{nat_tests}
 use Rattle.std.proofs.lemmas.List.Sums.{sum_by-cons}
 use Rattle.ckr_base.proofs.Options.{option-cases}
-use Rattle.ckr_base.proofs.Numbers.{nat_le-true, suc-is-plus}
+use Rattle.ckr_base.proofs.Numbers.{nat_le-false, nat_le-true, suc-is-plus}
 use Rattle.ckr_base.proofs.Sequences.{get-inside}
 use Rattle.ckr_meaning.specs.EffectiveJob.{OwnedStep}
 use Rattle.ckr_meaning.specs.JobRun.{start_at, start_in, walk_before}
@@ -32,9 +31,6 @@ none-there leg (suc place) beyond =
     (λ none. ap (λ (o : Option OwnedStep). option_map (λ owned. start_in leg.job.root (suc place) owned (walk_before leg.job leg.start (suc place))) o) none)
     (λ owned some. absurd (let inside : place < length leg.job.steps = get-inside owned leg.job.steps place some in omega (arith, inside, beyond)))
 
-above : (one other : ℕ) → nat_le one other ≡ false → other < one
-above one other isnt = grind (arith, nat_tests)
-
 -- the first one, where there is one, and those behind it
 pub steps-next : (leg : Leg) (number : ℕ) → steps_from leg number ≡ cons_option (start_at leg.job leg.start number) (steps_from leg (suc number))
 steps-next leg number = by (nat_le number (length leg.job.steps)) refl
@@ -45,7 +41,7 @@ steps-next leg number = by (nat_le number (length leg.job.steps)) refl
         ap (λ n. filter_map (start_at leg.job leg.start) (range_with_len number n)) (let e : suc (length leg.job.steps) - number ≡ suc (suc (length leg.job.steps) - suc number) = omega (arith, within) in e)
         ∙ ap (λ n. cons_option (start_at leg.job leg.start number) (filter_map (start_at leg.job leg.start) (range_with_len n (suc (length leg.job.steps) - suc number)))) (sym (suc-is-plus number))
     by false isnt =
-        let beyond : length leg.job.steps < number = above number (length leg.job.steps) isnt in
+        let beyond : length leg.job.steps < number = nat_le-false number (length leg.job.steps) isnt in
         ap (λ n. filter_map (start_at leg.job leg.start) (range_with_len number n)) (let e : suc (length leg.job.steps) - number ≡ 0 = omega (arith, beyond) in e)
         ∙ sym (ap (λ n. filter_map (start_at leg.job leg.start) (range_with_len (suc number) n)) (let e : suc (length leg.job.steps) - suc number ≡ 0 = omega (arith, beyond) in e))
         ∙ ap (λ o. cons_option o (steps_from leg (suc number))) (sym (none-there leg number beyond))

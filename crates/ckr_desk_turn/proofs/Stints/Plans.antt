@@ -220,12 +220,7 @@ module _ (lodged : Bool) (run initiator : ℕ) where
 
   pub answered-by : (answer : Answer) (plan : Plan) → is_plan_by lodged run initiator plan ≡ true → is_plan_by lodged run initiator (decide answer plan) ≡ true
   answered-by answer (Ask inquiry) its = decided-by answer inquiry its
-  answered-by answer (Rest reply) its = its
-  answered-by answer (Tell reply event) its = its
-  answered-by answer (Work job) its = its
-  answered-by answer (Pass job reply) its = its
-  answered-by answer (Take job) its = its
-  answered-by answer (Wait job code) its = its
+  answered-by answer other its = its
 
 pub unit-by : (layout : Layout) (jobs : TurnJobs) (row : RunRow) (step : TurnStep) (unit : UnitOutcome) → is_plan_by true row.number (initiator_of row) (unit_plan layout jobs row step unit) ≡ true
 unit-by layout jobs row step (went None) = refl

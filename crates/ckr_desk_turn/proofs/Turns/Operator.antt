@@ -8,7 +8,7 @@ use Rattle.arrayvec.specs.ArrayVec.{ArrayVec}
 use Rattle.ckr_base.specs.declared.code.Code.{Code}
 use Rattle.ckr_base.specs.declared.programs.NextDue.{NextDue}
 use Rattle.ckr_base.specs.declared.programs.NextDue.TheVariants.{Unit as OneUnit, Checkpoint as CheckpointDue, Cancel, Finished}
-use Rattle.ckr_base.proofs.Bools.{or-first-false, or-second-false}
+use Rattle.ckr_base.proofs.Bools.{and-false, or-first-false, or-second-false}
 use Rattle.ckr_base.proofs.Options.{is_none-true, option-cases, some-not-none}
 use Rattle.ckr_console.specs.declared.question.Answer.{Answer}
 use Rattle.ckr_console.specs.declared.question.Answer.TheVariants.{Yes, No, Hold, Silent}
@@ -108,10 +108,6 @@ record IsAwaited (desk : DeskModel) (one : MountedTurn) : Type 0 where
 
 -- ---- plans
 
-no-end : (also : Bool) → (also && false) ≡ false
-no-end true = refl
-no-end false = refl
-
 module _ (also : Bool) where
   -- the plan of a run with a code
   code-apart : (layout : Layout) (tables : TablesModel) (row : RunRow) (initiator : ℕ) (lodged : Bool) (code : Code) (reached : CodePlaceModel) → (also ≡ true → verdict_for layout row code ≡ Checkpoint → is_some (effect_entry tables row) ≡ true)
@@ -124,7 +120,7 @@ module _ (also : Bool) where
       missing true e none judged = absurd (false≢true (ap is_some (sym none) ∙ there e judged))
 
       by : (verdict : Verdict) → verdict_for layout row code ≡ verdict → (denying verdict == 6) ≡ false → is_his_plan also (judged_plan tables row initiator lodged code reached verdict) ≡ false
-      by (Denied rule) judged isnt = ap (λ b. also && b) isnt ∙ no-end also
+      by (Denied rule) judged isnt = ap (λ b. also && b) isnt ∙ and-false also
       by Step judged isnt = refl
       by Checkpoint judged isnt =
           option-cases (effect_entry tables row)

@@ -1,13 +1,12 @@
 -- Any unit of a running step.
-use Rattle.std.proofs.Common.{◌≡◌, ◌≤◌, ◌<◌, ℕ, false, List, find, length, refl, subst, Option, Some, None, arith}
+use Rattle.std.proofs.Common.{◌≡◌, ◌≤◌, ◌<◌, ℕ, false, List, find, length, refl, subst, Option, Some, None}
 use Rattle.std.specs.Prelude.{◌==◌, nat_le}
 use Rattle.std.specs.List.{AllByRecursion}
 use Rattle.std.specs.Option.{option_map_or}
-use Rattle.std.proofs.lemmas.Bool.Decides.{nat_tests}
 use Rattle.ckr_base.specs.declared.programs.Finish.{Finish}
 use Rattle.ckr_base.specs.declared.programs.Finish.TheVariants.{Abend, Returned}
 use Rattle.ckr_base.proofs.Bools.{bool-cases}
-use Rattle.ckr_base.proofs.Numbers.{nat_le-true}
+use Rattle.ckr_base.proofs.Numbers.{nat_le-false, nat_le-true}
 use Rattle.ckr_base.proofs.Options.{option-cases}
 use Rattle.ckr_base.proofs.Sequences.{find-holds}
 use Rattle.ckr_console.specs.declared.question.Answer.{Answer}
@@ -25,9 +24,6 @@ use Rattle.ckr_desk_turn.proofs.Turns.Units.{work-abended, work-closed, work-ful
 pub found-going : (office : Office) (run : ℕ) (progress : StepProgress) (running : List DeskStep) → AllByRecursion (IsGoing office) running → option_map_or (λ (step : DeskStep). progress_unless step.code step.progress) (find (λ (step : DeskStep). step.run == run) running) None ≡ Some progress → IsGoing office (record { run = run; progress = progress; code = None })
 found-going office run progress running going found =
     find-holds (IsGoing office) (λ (step : DeskStep). step.run == run) running (plain_step run progress) going (progress-found running run progress found)
-
-above : (one other : ℕ) → nat_le one other ≡ false → other < one
-above one other isnt = grind (arith, nat_tests)
 
 module _ (answer : Answer) (desk : DeskModel) (is : IsDesk desk) (run : ℕ) (progress : StepProgress) (found : progress_of desk run ≡ Some progress) (unclosed : progress.closed ≡ false) where
   abbrev on : DeskStep
@@ -54,4 +50,4 @@ module _ (answer : Answer) (desk : DeskModel) (is : IsDesk desk) (run : ℕ) (pr
   work-keeps =
       bool-cases (nat_le (next_writes going.start progress) (length (work_at going.start).writes))
       (λ fits. by_finish (program_unit (case_at going.start) progress.taken).finish refl (nat_le-true (next_writes going.start progress) (length (work_at going.start).writes) fits))
-      (λ full. work-full answer desk is on going found opened (above (next_writes going.start progress) (length (work_at going.start).writes) full))
+      (λ full. work-full answer desk is on going found opened (nat_le-false (next_writes going.start progress) (length (work_at going.start).writes) full))

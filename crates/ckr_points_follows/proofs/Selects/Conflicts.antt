@@ -14,7 +14,7 @@ use Rattle.ckr_points.specs.Rows.{RunRow, TablesModel, run_of}
 use Rattle.ckr_points.specs.declared.run.Run.{Run}
 use Rattle.ckr_points.specs.declared.run.RunState.{RunState}
 use Rattle.ckr_points.specs.declared.run.RunState.TheVariants.{Queued, On, Held as HeldRun, Released as ReleasedRun, Ended, Denied, Purged}
-use Rattle.ckr_points_tables.specs.BegunRuns.{has_ended}
+use Rattle.ckr_points_tables.specs.BegunRuns.{is_over}
 use Rattle.ckr_points_tables.specs.RunRows.{IsRunRow}
 use Rattle.ckr_points_tables.specs.View.{line_of}
 use Rattle.ckr_points_follows.specs.DeckConflicts.{holds_beside, may_be_beside}
@@ -36,10 +36,10 @@ holds-dds run other job other_job = holds-merged (uses_of_dds run job) (uses_of_
 -- ---- beside each run
 
 -- a run may be selected beside one that has ended
-pub beside-ended : (tables : TablesModel) (row : RunRow) (line : Run) → has_ended line.state ≡ true → may_be_beside tables row line ≡ true
+pub beside-ended : (tables : TablesModel) (row : RunRow) (line : Run) → is_over line.state ≡ true → may_be_beside tables row line ≡ true
 beside-ended tables row line ended = ap (λ holder. not (holder && holds_beside tables row line.number)) (no-holder line.state ended)
   where
-    no-holder : (state : RunState) → has_ended state ≡ true → is_holder state ≡ false
+    no-holder : (state : RunState) → is_over state ≡ true → is_holder state ≡ false
     no-holder Queued e = refl
     no-holder On e = absurd (false≢true e)
     no-holder HeldRun e = absurd (false≢true e)

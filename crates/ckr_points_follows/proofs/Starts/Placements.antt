@@ -3,6 +3,7 @@ use Rattle.std.proofs.Common.{◌≡◌, ℕ, suc, ◌+◌, ◌&&◌, true, fals
 use Rattle.std.proofs.lemmas.List.Elements.{filter_map-append}
 use Rattle.std.specs.Option.{is_some, option_map, option_map_or}
 use Rattle.std.specs.List.{cons_option, list_all}
+use Rattle.ckr_base.proofs.Sequences.{all-same}
 use Rattle.ckr_meaning.specs.Allotments.{FlawModel, DdAllotment}
 use Rattle.ckr_jcl.specs.declared.deck.Dd.{Dd}
 use Rattle.ckr_meaning.specs.Dispositions.{Stock}
@@ -11,7 +12,7 @@ use Rattle.ckr_points.specs.Rows.{TableSet, table_ways}
 use Rattle.ckr_points.specs.Follows.{is_empty}
 use Rattle.ckr_points_follows.specs.Placements.{placed_list, placed_now}
 use Rattle.ckr_points_follows.specs.declared.placements.PlacedNow.{PlacedNow}
-use Rattle.ckr_points_follows.proofs.Lists.{all-alike, all-filter_mapped}
+use Rattle.ckr_points_follows.proofs.Lists.{all-filter_mapped}
 
 unrefused : (placed : List DdAllotment) → is_empty (flaws_in placed) ≡ list_all (λ (one : DdAllotment). not (is_some (flaw_in one.allotment))) placed
 unrefused [] = refl
@@ -24,7 +25,7 @@ unrefused (one ∷ placed) = by (flaw_in one.allotment) (unrefused placed)
 
 pub no-flaws : (placed : List (Option PlacedNow)) → list_all (λ (one : Option PlacedNow). not (option_map_or (λ (p : DdAllotment). is_some (flaw_in p.allotment)) (option_map placed_now one) false)) placed ≡ is_empty (flaws_in (placed_list placed))
 no-flaws placed =
-    all-alike (λ (one : Option PlacedNow). not (option_map_or (λ (p : DdAllotment). is_some (flaw_in p.allotment)) (option_map placed_now one) false))
+    all-same (λ (one : Option PlacedNow). not (option_map_or (λ (p : DdAllotment). is_some (flaw_in p.allotment)) (option_map placed_now one) false))
     (λ (one : Option PlacedNow). option_map_or (λ (p : DdAllotment). not (is_some (flaw_in p.allotment))) (option_map placed_now one) true) each placed
     ∙ sym (all-filter_mapped (λ (one : Option PlacedNow). option_map placed_now one) (λ (p : DdAllotment). not (is_some (flaw_in p.allotment))) placed)
     ∙ sym (unrefused (placed_list placed))

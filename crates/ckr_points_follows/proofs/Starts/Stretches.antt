@@ -8,6 +8,7 @@ use Rattle.std.proofs.lemmas.List.Folds.{list_all-map}
 use Rattle.std.proofs.lemmas.List.Sums.{sum_by-cons}
 use Rattle.ckr_base.proofs.Bools.{and-assoc}
 use Rattle.ckr_base.proofs.Numbers.{equal-from}
+use Rattle.ckr_base.proofs.Sequences.{all-same}
 use Rattle.ckr_events.specs.declared.event.Made.{Made}
 use Rattle.ckr_events.specs.declared.event.Piece.{Piece}
 use Rattle.ckr_library.specs.declared.sets.Part.{Part}
@@ -24,7 +25,7 @@ use Rattle.ckr_points_follows.specs.Placements.{set_made}
 use Rattle.ckr_points_follows.specs.declared.stretches.Stretch.{Stretch}
 use Rattle.ckr_library.specs.NameMaps.{Named}
 use Rattle.ckr_points_follows.proofs.Starts.Spans.{clear-stretches}
-use Rattle.ckr_points_follows.proofs.Lists.{all-alike, all-filtered}
+use Rattle.ckr_points_follows.proofs.Lists.{all-filtered}
 
 -- the stretches of a DD's items are those of its parts
 pub gathered-parts : (number : ℕ) (items : List Made) → map stretch_now (gathered number items) ≡ stretches_of_parts (parts_from number items)
@@ -52,7 +53,7 @@ apart-mapped lrecl (one ∷ rest) =
 
 pub lists-mapped : (lrecl other_lrecl : ℕ) (ones others : List Stretch) → list_all (λ (one : Stretch). apart_from lrecl other_lrecl one others) ones ≡ lists_apart lrecl other_lrecl (map stretch_now ones) (map stretch_now others)
 lists-mapped lrecl other_lrecl ones others =
-    all-alike (λ (one : Stretch). apart_from lrecl other_lrecl one others) (λ (one : Stretch). list_all (are_apart lrecl other_lrecl (stretch_now one)) (map stretch_now others))
+    all-same (λ (one : Stretch). apart_from lrecl other_lrecl one others) (λ (one : Stretch). list_all (are_apart lrecl other_lrecl (stretch_now one)) (map stretch_now others))
     (λ one. sym (list_all-map (are_apart lrecl other_lrecl (stretch_now one)) stretch_now others)) ones
     ∙ sym (list_all-map (λ one. list_all (are_apart lrecl other_lrecl one) (map stretch_now others)) stretch_now ones)
 

@@ -3,6 +3,7 @@
 use Rattle.std.proofs.Common.{◌≡◌, ◌≢◌, ℕ, suc, false, List, ap, sym, ◌∙◌, subst, Option, Some, None}
 use Rattle.std.specs.Option.{is_some, option_map_or}
 use Rattle.ckr_base.proofs.Options.{is_some-from, some-not-none, some-one}
+use Rattle.ckr_base.proofs.Numbers.{equal-apart}
 use Rattle.ckr_library.specs.NameMaps.{Name, Named}
 use Rattle.ckr_meaning.specs.EffectiveJob.{is_among, names_of_job}
 use Rattle.ckr_meaning.specs.LibrarySet.{Library}
@@ -17,7 +18,6 @@ use Rattle.ckr_points_invariant.specs.Points.{ArePointed}
 use Rattle.ckr_points_invariant.specs.StartedSteps.{AreBegunSteps, HasBegunSteps}
 use Rattle.ckr_points_invariant.specs.EarlierRuns.{MayContinue}
 use Rattle.ckr_points_invariant.proofs.Holders.Rows.{queued-is, run-other, run-same}
-use Rattle.ckr_points_invariant.proofs.Marks.Points.{differs}
 use Rattle.ckr_points_invariant.proofs.Select.Holders.{leg_here, leg_there}
 use Rattle.ckr_points_invariant.proofs.StartedSteps.Offices.{HasItsSteps, IsOnlyRow, begun-only}
 use Rattle.ckr_points_invariant.proofs.Continuations.EarlierRun.{Coming, leg_from, row_then, tables_then}
@@ -79,7 +79,7 @@ module _ (layout : Layout) (now : Office) (job initiator before step : ℕ) (id 
   pub other-legs : (number : ℕ) → number ≢ its.row.number → leg_of behind number ≡ leg_of now number
   other-legs number apart =
       ap (λ (legs : List Leg). leg_of (record now { legs = legs }) number) all-legs
-      ∙ leg_there leg number now.legs (differs its.row.number number (λ same. apart (sym same)))
+      ∙ leg_there leg number now.legs (equal-apart its.row.number number (λ same. apart (sym same)))
 
   pub legs-behind : (number : ℕ) → number ≢ job → leg_of behind number ≡ leg_of now number
   legs-behind number apart = other-legs number (λ same. apart (same ∙ row_is))

@@ -22,11 +22,12 @@ use Rattle.ckr_points.specs.Rows.{RunRow, TablesModel, run_of}
 use Rattle.ckr_uses.specs.SetNames.{run_name}
 use Rattle.ckr_uses.specs.Uses.{holds, is_exclusive_of, is_of, uses_of}
 use Rattle.ckr_uses.proofs.SharedNames.{holds-names}
+use Rattle.ckr_uses.proofs.RunNames.{run_name-same}
 use Rattle.ckr_points_invariant.specs.Invariant.{AreOrderly}
 use Rattle.ckr_points_invariant.specs.JobNames.{HasJobName, IsNameOf}
 use Rattle.ckr_points_invariant.proofs.Decks.Events.{row-orderly}
 use Rattle.ckr_points_invariant.proofs.Decks.Names.{orderly-dds, orderly-number}
-use Rattle.ckr_points_invariant.proofs.Holders.DeckNames.{deck-named, names-owned, plain-holds, restarts-hold, run_name-same}
+use Rattle.ckr_points_invariant.proofs.Holders.DeckNames.{deck-named, names-owned, plain-holds, restarts-hold}
 use Rattle.ckr_points_invariant.proofs.Holders.NamesInCommon.{IsWritten, TellsApart}
 
 -- ---- uses that hold against each other

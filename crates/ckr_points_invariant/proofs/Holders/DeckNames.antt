@@ -1,15 +1,12 @@
 -- The names of a deck whatever its root and the owners of its steps, and the uses that keep two runs from meeting in one.
-use Rattle.std.proofs.Common.{◌≡◌, ◌≤◌, ◌<◌, ℕ, zero, suc, Bool, true, false, cond, ◌&&◌, ◌||◌, ◌+◌, List, [], ◌∷◌, ◌++◌, flat_map, map, length, refl, ap, sym, ◌∙◌, Option, Some, None, arith}
-use Rattle.std.specs.Prelude.{◌/◌, ◌%◌, ◌^◌}
+use Rattle.std.proofs.Common.{◌≡◌, ℕ, suc, Bool, true, false, cond, ◌&&◌, ◌||◌, ◌+◌, List, [], ◌∷◌, ◌++◌, flat_map, map, length, refl, ap, sym, ◌∙◌, Option, Some, None}
 use Rattle.std.specs.List.{cons_option, filter_map, list_any}
 use Rattle.std.specs.Option.{is_some, option_and_then, option_map, option_to_list}
-use Rattle.std.proofs.Math.Nat.{pow-suc}
 use Rattle.std.proofs.lemmas.Bool.{false≢true, or_left, or_right}
 use Rattle.std.proofs.lemmas.List.Folds.{list_any-append}
-use Rattle.std.proofs.lemmas.List.{length-append}
-use Rattle.ckr_base.specs.Digits.{last_digits}
 use Rattle.ckr_base.proofs.Bools.{bool-cases}
 use Rattle.ckr_base.proofs.Options.{some-not-none}
+use Rattle.ckr_base.proofs.NameBytes.{digits-length}
 use Rattle.ckr_jcl.specs.declared.deck.Dd.{Dd}
 use Rattle.ckr_jcl.specs.declared.deck.Job.{Job}
 use Rattle.ckr_jcl.specs.declared.deck.Origin.{Origin}
@@ -25,38 +22,13 @@ use Rattle.ckr_uses.specs.SetNames.{origin_name, run_name}
 use Rattle.ckr_uses.specs.Uses.{holds, is_exclusive_of, is_of, use_as, use_in, use_of_syschk, uses_in_step, uses_of, uses_of_dds}
 use Rattle.ckr_uses.proofs.MergedUses.{merged-is}
 use Rattle.ckr_uses.proofs.SharedNames.{holds-names}
-use Rattle.ckr_points_invariant.proofs.Holders.NamesInCommon.{InCommon, IsWritten, TellsApart, by_owner, by_root, fronts-same, in-common, written}
+use Rattle.ckr_points_invariant.proofs.Holders.NamesInCommon.{InCommon, IsWritten, TellsApart, by_owner, by_root, in-common, written}
 use Rattle.ckr_points_invariant.specs.JobNames.{IsNameOf}
 
 -- ---- run numbers as qualifiers
 
-pub digits-long : (count number : ℕ) → length (last_digits count number) ≡ count
-digits-long zero number = refl
-digits-long (suc count) number = length-append (last_digits count (number / 10)) ((48 + number % 10) ∷ []) ∙ omega (arith, digits-long count (number / 10))
-
-digits-same : (count one other : ℕ) → one < 10 ^ count → other < 10 ^ count → last_digits count one ≡ last_digits count other → one ≡ other
-digits-same zero one other low also is = let a : 10 ^ 0 ≡ 1 = refl in omega (arith, low, also, a)
-digits-same (suc count) one other low also is =
-    let parts = fronts-same (last_digits count (one / 10)) (last_digits count (other / 10)) ((48 + one % 10) ∷ []) ((48 + other % 10) ∷ []) (digits-long count (one / 10) ∙ sym (digits-long count (other / 10))) is in
-    let front : one / 10 ≡ other / 10 = digits-same count (one / 10) (other / 10) (tenth one low) (tenth other also) parts.0 in
-    let last : 48 + one % 10 ≡ 48 + other % 10 = same_head (48 + one % 10) (48 + other % 10) parts.1 in
-    omega (arith, front, last)
-  where
-    same_head : (x y : ℕ) → x ∷ [] ≡ y ∷ [] → x ≡ y
-    same_head x y e = cc
-
-    tenth : (number : ℕ) → number < 10 ^ suc count → number / 10 < 10 ^ count
-    tenth number h = omega (arith, pow-suc 10 count)
-
--- a run's number has seven digits at most, so its qualifier tells it
-pub run_name-same : (one other : ℕ) → one ≤ 9999999 → other ≤ 9999999 → run_name one ≡ run_name other → one ≡ other
-run_name-same one other few also is = digits-same 7 one other (omega (arith, few)) (omega (arith, also)) (rest (last_digits 7 one) (last_digits 7 other) is)
-  where
-    rest : (xs ys : List ℕ) → 74 ∷ xs ≡ 74 ∷ ys → xs ≡ ys
-    rest xs ys e = cc
-
 pub run_names-long : (one other : ℕ) → length (run_name one) ≡ length (run_name other)
-run_names-long one other = ap suc (digits-long 7 one ∙ sym (digits-long 7 other))
+run_names-long one other = ap suc (digits-length 7 one ∙ sym (digits-length 7 other))
 
 -- ---- a name of a deck
 

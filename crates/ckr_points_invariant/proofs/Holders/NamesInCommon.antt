@@ -5,6 +5,8 @@ use Rattle.std.proofs.lemmas.Bool.{false≢true}
 use Rattle.std.proofs.lemmas.List.{append_cancel_left}
 use Rattle.std.proofs.lemmas.Option.{same_Some}
 use Rattle.ckr_base.proofs.Options.{some-not-none}
+use Rattle.ckr_base.proofs.Numbers.{suc-same}
+use Rattle.ckr_base.proofs.Sequences.{head-same, tail-same}
 use Rattle.ckr_jcl.specs.declared.deck.Origin.{Origin}
 use Rattle.ckr_jcl.specs.declared.deck.Origin.TheVariants.{InStream, Named, Temporary, Unnamed, Sysout, Dummy}
 use Rattle.ckr_library.specs.NameMaps.{Name}
@@ -23,15 +25,6 @@ step-form : (front qualifier step dd : Name) → step_name front qualifier step 
 step-form front qualifier step dd =
     append_assoc (qualified front qualifier) (46 ∷ step) (46 ∷ dd) ∙ append_assoc front (46 ∷ qualifier) ((46 ∷ step) ++ 46 ∷ dd)
 
-head-same : (one other : ℕ) (xs ys : List ℕ) → one ∷ xs ≡ other ∷ ys → one ≡ other
-head-same one other xs ys is = cc
-
-tail-same : (one other : ℕ) (xs ys : List ℕ) → one ∷ xs ≡ other ∷ ys → xs ≡ ys
-tail-same one other xs ys is = cc
-
-pred-same : (one other : ℕ) → suc one ≡ suc other → one ≡ other
-pred-same one other is = cc
-
 -- fronts of the same length
 pub fronts-same : (one other xs ys : List ℕ) → length one ≡ length other → one ++ xs ≡ other ++ ys → (one ≡ other) × (xs ≡ ys)
 fronts-same [] [] xs ys long is = (refl, is)
@@ -44,7 +37,7 @@ fronts-same (first ∷ one) [] xs ys long is = absurd (more-not-zero (length one
     more-not-zero : (n : ℕ) → suc n ≡ zero → ⊥
     more-not-zero n e = cc
 fronts-same (first ∷ one) (second ∷ other) xs ys long is =
-    let rest = fronts-same one other xs ys (pred-same (length one) (length other) long) (tail-same first second (one ++ xs) (other ++ ys) is) in
+    let rest = fronts-same one other xs ys (suc-same (length one) (length other) long) (tail-same first second (one ++ xs) (other ++ ys) is) in
     (ap (λ byte. byte ∷ one) (head-same first second (one ++ xs) (other ++ ys) is) ∙ ap (λ bytes. second ∷ bytes) rest.0, rest.1)
 
 -- behind the same front, with qualifiers of the same length

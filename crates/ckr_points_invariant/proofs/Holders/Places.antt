@@ -1,12 +1,12 @@
 -- A holder at its place, where its row goes on.
-use Rattle.std.proofs.Common.{◌≡◌, ◌≢◌, ◌≤◌, ◌<◌, ℕ, zero, suc, pred, ◌+◌, Bool, true, false, ◌&&◌, ◌||◌, List, [], ◌∷◌, ◌++◌, filter, take, drop, length, refl, ap, sym, ◌∙◌, subst, Option, Some, None, arith}
+use Rattle.std.proofs.Common.{◌≡◌, ◌≢◌, ◌≤◌, ◌<◌, ℕ, zero, suc, pred, ◌+◌, true, false, ◌||◌, List, [], ◌∷◌, ◌++◌, filter, take, drop, length, refl, ap, sym, ◌∙◌, subst, Option, Some, None, arith}
 use Rattle.std.specs.Prelude.{◌==◌}
-use Rattle.std.specs.List.{list_all, list_any}
+use Rattle.std.specs.List.{list_all}
 use Rattle.std.specs.Option.{option_map_or}
 use Rattle.std.proofs.lemmas.Bool.{false≢true}
 use Rattle.ckr_base.proofs.Bools.{bool-cases}
 use Rattle.ckr_base.proofs.Numbers.{equal-itself, number-cases}
-use Rattle.ckr_base.proofs.Sequences.{all-implies, any-filter}
+use Rattle.ckr_base.proofs.Sequences.{all-implies, any-filter, any-second}
 use Rattle.ckr_entry.specs.declared.point.Mark.{Mark}
 use Rattle.ckr_library.specs.NameMaps.{Name}
 use Rattle.ckr_meaning.specs.Allotments.{is_output}
@@ -32,21 +32,11 @@ use Rattle.ckr_points_invariant.specs.JobNames.{keeps_points}
 
 -- ---- names of a step
 
-weaker_any : {X : Type 0} (kept test : X → Bool) (xs : List X) → list_any (λ x. kept x && test x) xs ≡ true → list_any test xs ≡ true
-weaker_any kept test [] some = some
-weaker_any kept test (first ∷ rest) some =
-    by (kept first) (test first) some (weaker_any kept test rest)
-  where
-    by : (a b : Bool) → ((a && b) || list_any (λ x. kept x && test x) rest) ≡ true → (list_any (λ x. kept x && test x) rest ≡ true → list_any test rest ≡ true) → (b || list_any test rest) ≡ true
-    by a true some more = refl
-    by true false some more = more some
-    by false false some more = more some
-
 -- the outputs of a step are among its names
 pub outputs-among : (root : ℕ) (owned : OwnedStep) (name : Name) → is_among (output_names root owned) name ≡ true → is_among (names_of root owned) name ≡ true
 outputs-among root owned name among =
     among-filter_map (name_of root owned) owned.step.dds name
-    ∙ weaker_any (λ dd. is_output dd.role) (λ dd. is_name name (name_of root owned dd)) owned.step.dds
+    ∙ any-second (λ dd. is_output dd.role) (λ dd. is_name name (name_of root owned dd)) owned.step.dds
     (sym (any-filter (λ dd. is_output dd.role) (λ dd. is_name name (name_of root owned dd)) owned.step.dds)
     ∙ sym (among-filter_map (name_of root owned) (filter (λ dd. is_output dd.role) owned.step.dds) name) ∙ among)
 

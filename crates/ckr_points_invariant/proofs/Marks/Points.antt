@@ -8,7 +8,7 @@ use Rattle.std.proofs.lemmas.List.Folds.{list_any-append}
 use Rattle.std.specs.FinMap.Entries.{by_order}
 use Rattle.std.specs.declared.cmp.Ordering.TheVariants.{Less, Equal, Greater}
 use Rattle.ckr_base.proofs.Bools.{and-false, bool-cases}
-use Rattle.ckr_base.proofs.Numbers.{equal-itself, equal-true, number-cases}
+use Rattle.ckr_base.proofs.Numbers.{equal-apart, equal-itself, equal-true, number-cases}
 use Rattle.ckr_base.proofs.Options.{option-cases}
 use Rattle.ckr_base.proofs.Sequences.{find-passes}
 use Rattle.ckr_entry.specs.declared.point.Mark.{Mark}
@@ -106,11 +106,8 @@ among-dropped root (suc count) (owned ∷ rest) name among =
 
 -- ---- the points of a run
 
-pub differs : (one other : ℕ) → one ≢ other → (one == other) ≡ false
-differs one other apart = bool-cases (one == other) (λ same. absurd (apart (equal-true one other same))) (λ e. e)
-
 turned : (one other : ℕ) → (one == other) ≡ false → (other == one) ≡ false
-turned one other e = differs other one (λ same. absurd (false≢true (sym e ∙ ap (λ n. one == n) same ∙ equal-itself one)))
+turned one other e = equal-apart other one (λ same. absurd (false≢true (sym e ∙ ap (λ n. one == n) same ∙ equal-itself one)))
 
 pub point_at-new : (point : StartPoint) (points : List StartPoint) → point_at (with_point point points) point.step ≡ Some point
 point_at-new point [] = ap (λ b. cond b (Some point) None) (equal-itself point.step)
@@ -131,19 +128,19 @@ point_at-new point (first ∷ rest) =
     ∙ point_at-new point rest))
 
 pub point_at-other : (point : StartPoint) (points : List StartPoint) (step : ℕ) → step ≢ point.step → point_at (with_point point points) step ≡ point_at points step
-point_at-other point [] step other = ap (λ b. cond b (Some point) None) (differs point.step step (λ e. other (sym e)))
+point_at-other point [] step other = ap (λ b. cond b (Some point) None) (equal-apart point.step step (λ e. other (sym e)))
 point_at-other point (first ∷ rest) step other =
     bool-cases (point.step == first.step)
     (λ same.
     ap (λ b. point_at (if b then point ∷ rest else (if nat_lt point.step first.step then point ∷ first ∷ rest else first ∷ with_point point rest)) step) same
-    ∙ ap (λ b. cond b (Some point) (point_at rest step)) (differs point.step step (λ e. other (sym e)))
-    ∙ sym (ap (λ b. cond b (Some first) (point_at rest step)) (differs first.step step (λ e. other (sym e ∙ sym (equal-true point.step first.step same))))))
+    ∙ ap (λ b. cond b (Some point) (point_at rest step)) (equal-apart point.step step (λ e. other (sym e)))
+    ∙ sym (ap (λ b. cond b (Some first) (point_at rest step)) (equal-apart first.step step (λ e. other (sym e ∙ sym (equal-true point.step first.step same))))))
     (λ apart.
     ap (λ b. point_at (if b then point ∷ rest else (if nat_lt point.step first.step then point ∷ first ∷ rest else first ∷ with_point point rest)) step) apart
     ∙ bool-cases (nat_lt point.step first.step)
     (λ below.
     ap (λ b. point_at (if b then point ∷ first ∷ rest else first ∷ with_point point rest) step) below
-    ∙ ap (λ b. cond b (Some point) (point_at (first ∷ rest) step)) (differs point.step step (λ e. other (sym e))))
+    ∙ ap (λ b. cond b (Some point) (point_at (first ∷ rest) step)) (equal-apart point.step step (λ e. other (sym e))))
     (λ above.
     ap (λ b. point_at (if b then point ∷ first ∷ rest else first ∷ with_point point rest) step) above
     ∙ ap (cond (first.step == step) (Some first)) (point_at-other point rest step other)))

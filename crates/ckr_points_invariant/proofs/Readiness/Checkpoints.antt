@@ -1,5 +1,5 @@
 -- A run is ready where it has taken a checkpoint.
-use Rattle.std.proofs.Common.{◌≡◌, ℕ, suc, ◌+◌, Bool, true, false, cond, not, if◌then◌else◌, ◌&&◌, List, [], ◌∷◌, ◌++◌, filter, refl, ap, sym, ◌∙◌, subst, Option, Some, None, arith}
+use Rattle.std.proofs.Common.{◌≡◌, ℕ, suc, ◌+◌, Bool, true, false, cond, not, if◌then◌else◌, ◌&&◌, List, [], ◌∷◌, filter, refl, ap, sym, ◌∙◌, subst, Option, Some, None, arith}
 use Rattle.std.specs.Prelude.{◌==◌, nat_le}
 use Rattle.std.specs.List.{cons_option, filter_map, find}
 use Rattle.std.specs.Option.{is_none, option_map, option_map_or}
@@ -7,7 +7,8 @@ use Rattle.std.proofs.lemmas.Bool.{and_from, false≢true, not-true, or_from, or
 use Rattle.std.proofs.lemmas.Option.{same_Some}
 use Rattle.ckr_base.proofs.Bools.{and-first, and-second, bool-cases}
 use Rattle.ckr_base.proofs.Numbers.{equal-true, nat_le-from}
-use Rattle.ckr_base.proofs.Options.{is_none-true, option-cases, some-not-none, some-one}
+use Rattle.ckr_base.proofs.Options.{is_none-true, option-cases, some-one}
+use Rattle.ckr_base.proofs.Sequences.{find-append, find-filter-none}
 use Rattle.ckr_entry.specs.declared.point.Present.{Present}
 use Rattle.ckr_jcl.specs.declared.deck.Dd.{Dd}
 use Rattle.ckr_library.specs.Catalog.{ends_within, records_of}
@@ -118,28 +119,6 @@ committed-length set most (first ∷ outputs) (now ∷ lengths) sets table disti
 
 -- ---- lists of entries
 
-find-fewer : {A : Type 0} (test kept : A → Bool) (items : List A) → find test items ≡ None → find test (filter kept items) ≡ None
-find-fewer test kept [] e = refl
-find-fewer test kept (first ∷ rest) e =
-    bool-cases (test first)
-    (λ here. absurd (some-not-none first (sym (ap (λ b. cond b (Some first) (find test rest)) here) ∙ e)))
-    (λ there.
-    let later : find test rest ≡ None = sym (ap (λ b. cond b (Some first) (find test rest)) there) ∙ e in
-    bool-cases (kept first)
-    (λ stays.
-    ap (λ b. find test (cond b (first ∷ filter kept rest) (filter kept rest))) stays
-    ∙ ap (λ b. cond b (Some first) (find test (filter kept rest))) there ∙ find-fewer test kept rest later)
-    (λ goes. ap (λ b. find test (cond b (first ∷ filter kept rest) (filter kept rest))) goes ∙ find-fewer test kept rest later))
-
-find-last : {A : Type 0} (test : A → Bool) (items : List A) (item : A) → find test items ≡ None → test item ≡ true → find test (items ++ item ∷ []) ≡ Some item
-find-last test [] item e its = ap (λ b. cond b (Some item) None) its
-find-last test (first ∷ rest) item e its =
-    bool-cases (test first)
-    (λ here. absurd (some-not-none first (sym (ap (λ b. cond b (Some first) (find test rest)) here) ∙ e)))
-    (λ there.
-    ap (λ b. cond b (Some first) (find test (rest ++ item ∷ []))) there
-    ∙ find-last test rest item (sym (ap (λ b. cond b (Some first) (find test rest)) there) ∙ e) its)
-
 -- ---- the run behind its checkpoint
 
 module _ (layout : Layout) (now : Office) (job : ℕ) (row : RunRow) (leg : Leg) (owned : OwnedStep) (writes taken place bytes : ℕ) (id : Name) (lengths : List ℕ) (kept : IsAgreed layout now)
@@ -211,7 +190,7 @@ module _ (layout : Layout) (now : Office) (job : ℕ) (row : RunRow) (leg : Leg)
       (and-second (place == table.set.length) _ (sym (ap (λ (o : Option TableSet). option_map_or (λ (table : TableSet). place == table.set.length && is_none (kept_at now.tables.sets set id)) o false) e) ∙ fresh_id)) in
       let cut = committed-length set most outputs lengths now.tables.sets table distinct_outputs length_told e in
       let has : HasTable P done set =
-      committed-has P now.tables.sets set table e (λ most below its unknown. find-fewer (λ (one : KeptEntry). same_name one.kept.id id) (λ (one : KeptEntry). ends_within most one.kept) its.entries unknown) outputs lengths now.tables.sets are
+      committed-has P now.tables.sets set table e (λ most below its unknown. find-filter-none (λ (one : KeptEntry). same_name one.kept.id id) (λ (one : KeptEntry). ends_within most one.kept) its.entries unknown) outputs lengths now.tables.sets are
       (record { table = table; at = e; holds = unknown_was }) in
       record { table = cut.0; at = cut.1; length_is = cut.2; unknown = subst P (some-one has.table cut.0 (entry_at done set) has.at cut.1) has.holds })
 
@@ -219,7 +198,7 @@ module _ (layout : Layout) (now : Office) (job : ℕ) (row : RunRow) (leg : Leg)
   keeps_entry = record {
     table = with_kept_entry entry taken_so.table;
     at = at-with_changed set set (with_kept_entry entry) done ∙ ap (λ b. cond b (option_map (with_kept_entry entry) (entry_at done set)) (entry_at done set)) (name-itself set) ∙ ap (option_map (with_kept_entry entry)) taken_so.at;
-    found = find-last (λ (one : KeptEntry). same_name one.kept.id id) taken_so.table.entries entry taken_so.unknown (name-itself id);
+    found = find-append (λ (one : KeptEntry). same_name one.kept.id id) taken_so.table.entries entry taken_so.unknown (name-itself id);
     ends = ap (nat_le most) taken_so.length_is ∙ nat_le-from most most (omega arith);
   }
 

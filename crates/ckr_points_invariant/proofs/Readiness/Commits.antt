@@ -1,5 +1,5 @@
 -- A run stays ready where the lengths of its step are committed.
-use Rattle.std.proofs.Common.{◌≡◌, ◌≤◌, ℕ, ◌+◌, Bool, true, false, cond, ◌&&◌, List, [], ◌∷◌, filter, ap, sym, ◌∙◌, subst, Option, Some, arith}
+use Rattle.std.proofs.Common.{◌≡◌, ◌≤◌, ℕ, ◌+◌, true, false, cond, ◌&&◌, List, [], ◌∷◌, filter, ap, sym, ◌∙◌, subst, Option, Some, arith}
 use Rattle.std.specs.Prelude.{nat_le}
 use Rattle.std.specs.List.{find}
 use Rattle.std.specs.Option.{option_map, option_map_or}
@@ -8,6 +8,7 @@ use Rattle.std.proofs.lemmas.Option.{same_Some}
 use Rattle.ckr_base.specs.declared.code.Code.{Code}
 use Rattle.ckr_base.proofs.Bools.{and-first, and-second, bool-cases}
 use Rattle.ckr_base.proofs.Numbers.{nat_le-from, nat_le-true}
+use Rattle.ckr_base.proofs.Sequences.{find-filter}
 use Rattle.ckr_library.specs.Catalog.{ends_within, records_of}
 use Rattle.ckr_library.specs.NameMaps.{Name, Named, same_name, entry_at, with_changed}
 use Rattle.ckr_library.proofs.Named.{at-with_changed, name-same}
@@ -38,24 +39,6 @@ pub longer-ends : (one other : ℕ) (entry : KeptEntry) → one ≤ other → en
 longer-ends one other entry below ends =
     nat_le-from (entry.kept.place + records_of entry.kept.bytes) other
     (let e : entry.kept.place + records_of entry.kept.bytes ≤ one = nat_le-true (entry.kept.place + records_of entry.kept.bytes) one ends in omega (arith, e, below))
-
--- what is found is found among those that are kept, if it is kept
-pub find-kept : {A : Type 0} (test kept : A → Bool) (items : List A) (item : A) → find test items ≡ Some item → kept item ≡ true → find test (filter kept items) ≡ Some item
-find-kept test kept [] item e its = e
-find-kept test kept (first ∷ rest) item e its =
-    bool-cases (test first)
-    (λ here.
-    let same : first ≡ item = same_Some first item (sym (ap (λ b. cond b (Some first) (find test rest)) here) ∙ e) in
-    ap (λ b. find test (cond b (first ∷ filter kept rest) (filter kept rest))) (ap kept same ∙ its)
-    ∙ ap (λ b. cond b (Some first) (find test (filter kept rest))) here ∙ ap Some same)
-    (λ there.
-    let later : find test rest ≡ Some item = sym (ap (λ b. cond b (Some first) (find test rest)) there) ∙ e in
-    bool-cases (kept first)
-    (λ stays.
-    ap (λ b. find test (cond b (first ∷ filter kept rest) (filter kept rest))) stays
-    ∙ ap (λ b. cond b (Some first) (find test (filter kept rest))) there ∙ find-kept test kept rest item later its)
-    (λ goes.
-    ap (λ b. find test (cond b (first ∷ filter kept rest) (filter kept rest))) goes ∙ find-kept test kept rest item later its))
 
 -- ---- committed data sets
 
@@ -102,7 +85,7 @@ module _ (outputs : List Name) (lengths : List ℕ) (sets : Named TableSet) (are
       committed-has P sets set keeps.table keeps.at
       (λ now below table its.
       let within : ends_within now entry.kept ≡ true = longer-ends keeps.table.set.length now entry below keeps.ends in
-      (find-kept (λ (one : KeptEntry). same_name one.kept.id id) (λ (one : KeptEntry). ends_within now one.kept) table.entries entry its.0 within, within))
+      (find-filter (λ (one : KeptEntry). same_name one.kept.id id) (λ (one : KeptEntry). ends_within now one.kept) table.entries entry its.0 within, within))
       outputs lengths sets are (record { table = keeps.table; at = keeps.at; holds = (keeps.found, keeps.ends) }) in
       record { table = has.table; at = has.at; found = has.holds.0; ends = has.holds.1 }
 

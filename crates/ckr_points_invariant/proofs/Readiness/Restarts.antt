@@ -5,6 +5,7 @@ use Rattle.std.specs.List.{find}
 use Rattle.std.specs.Option.{option_map}
 use Rattle.std.proofs.lemmas.Bool.{false≢true}
 use Rattle.std.proofs.lemmas.Option.{same_Some}
+use Rattle.ckr_base.proofs.Sequences.{find-filter}
 use Rattle.ckr_entry.specs.declared.point.Mark.{Mark}
 use Rattle.ckr_entry.specs.declared.point.Passed.{Passed}
 use Rattle.ckr_entry.specs.declared.point.Present.{Present}
@@ -22,7 +23,6 @@ use Rattle.ckr_points.specs.Rows.{EffectPoint, KeptEntry, RunRow, StartPoint, Ta
 use Rattle.ckr_points_invariant.specs.Invariant.{step_now}
 use Rattle.ckr_points_invariant.specs.Readiness.{IsCheck, IsReady, KeepsEntry}
 use Rattle.ckr_points_invariant.specs.Restorability.{IsRestorable}
-use Rattle.ckr_points_invariant.proofs.Readiness.Commits.{find-kept}
 use Rattle.ckr_points_invariant.proofs.Readiness.Writes.{unwritten-less, unwritten-none}
 use Rattle.ckr_points_invariant.proofs.PutBack.Sets.{back_to, changed_if, put_back-marked, put_back-none, to_catalog, to_length}
 
@@ -33,7 +33,7 @@ length-keeps : (most : ℕ) (entry : KeptEntry) (id : Name) (table : TableSet) �
 length-keeps most entry id table back found ends = by (nat_le most table.set.length)
   where
     by : (b : Bool) → (find (λ (one : KeptEntry). same_name one.kept.id id) (if b then cut_set most table else table).entries ≡ Some entry) × (ends_within (if b then cut_set most table else table).set.length entry.kept ≡ true)
-    by true = (find-kept (λ (one : KeptEntry). same_name one.kept.id id) (λ (one : KeptEntry). ends_within most one.kept) table.entries entry found back, back)
+    by true = (find-filter (λ (one : KeptEntry). same_name one.kept.id id) (λ (one : KeptEntry). ends_within most one.kept) table.entries entry found back, back)
     by false = (found, ends)
 
 catalog-keeps : (needed : Bool) (present : Present) (entry : KeptEntry) (id : Name) (table : TableSet) → (find (λ (one : KeptEntry). same_name one.kept.id id) table.entries ≡ Some entry) × (ends_within table.set.length entry.kept ≡ true) → (find (λ (one : KeptEntry). same_name one.kept.id id) (changed_if needed (to_catalog present) table).entries ≡ Some entry) × (ends_within (changed_if needed (to_catalog present) table).set.length entry.kept ≡ true)

@@ -1,12 +1,12 @@
 -- What a step has written since a point of it, where none of the writes is a rewrite, and what is put back of that.
-use Rattle.std.proofs.Common.{◌≡◌, ◌≤◌, ℕ, zero, suc, ◌+◌, ◌-◌, Bool, true, false, cond, ◌&&◌, List, [], ◌∷◌, filter, map, drop, take, length, refl, ap, sym, ◌∙◌, Option, Some, None, arith}
+use Rattle.std.proofs.Common.{◌≡◌, ◌≤◌, ℕ, ◌+◌, ◌-◌, Bool, true, false, cond, ◌&&◌, List, [], ◌∷◌, filter, map, drop, take, length, refl, ap, sym, ◌∙◌, Option, Some, None, arith}
 use Rattle.std.specs.List.{AllByRecursion, list_all}
 use Rattle.std.specs.Option.{option_map, is_none}
 use Rattle.std.proofs.lemmas.Bool.{false≢true, or_parts}
 use Rattle.std.proofs.lemmas.Option.{same_Some}
 use Rattle.ckr_base.specs.declared.programs.Write.{Write}
 use Rattle.ckr_base.proofs.Bools.{bool-cases}
-use Rattle.ckr_base.proofs.Sequences.{all-drop, all-take}
+use Rattle.ckr_base.proofs.Sequences.{all-drop, all-take, take-short}
 use Rattle.ckr_entry.specs.declared.point.Mark.{Mark}
 use Rattle.ckr_library.specs.declared.sets.Content.{Content}
 use Rattle.ckr_library.specs.declared.sets.Content.TheVariants.{Plain, Checkpoints}
@@ -51,14 +51,9 @@ opened-made start name flawless kept =
 
 -- ---- lengths
 
-take_short : {A : Type 0} (count : ℕ) (items : List A) → length (take count items) ≤ length items
-take_short zero items = omega arith
-take_short (suc count) [] = omega arith
-take_short (suc count) (first ∷ rest) = let e : length (take count rest) ≤ length rest = take_short count rest in omega (arith, e)
-
 prefix_short : {A : Type 0} (first second : List A) → IsPrefix first second → length first ≤ length second
 prefix_short first second begins =
-    let short : length (take (length first) second) ≤ length second = take_short (length first) second in
+    let short : length (take (length first) second) ≤ length second = take-short (length first) second in
     let e : length (take (length first) second) ≡ length first = ap length begins in
     omega (arith, short, e)
 

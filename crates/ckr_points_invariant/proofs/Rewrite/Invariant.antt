@@ -10,7 +10,7 @@ use Rattle.std.proofs.lemmas.Option.{same_Some}
 use Rattle.ckr_base.specs.declared.programs.Output.TheVariants.{InPlace}
 use Rattle.ckr_base.specs.declared.programs.Write.{Write}
 use Rattle.ckr_base.proofs.Bools.{and-first, and-second, bool-cases}
-use Rattle.ckr_base.proofs.Options.{option-cases, some-not-none}
+use Rattle.ckr_base.proofs.Options.{and_then-some, option-cases, some-not-none}
 use Rattle.ckr_base.proofs.Sequences.{find-same}
 use Rattle.ckr_base.specs.Columns.{fitted}
 use Rattle.ckr_uses.specs.Uses.{are_distinct}
@@ -31,7 +31,7 @@ use Rattle.ckr_points.specs.Payload.{have_lengths, has_role, has_set, is_formed_
 use Rattle.ckr_points_invariant.specs.Invariant.{AreAlike, Shape, counted, set_shape}
 use Rattle.ckr_points.specs.Rows.{TableSet}
 use Rattle.ckr_points_invariant.proofs.Library.Likeness.{Matches, alike-changed}
-use Rattle.ckr_points_invariant.proofs.Writes.Roles.{chained, dd_role, formed-roles}
+use Rattle.ckr_points_invariant.proofs.Writes.Roles.{dd_role, formed-roles}
 
 -- ---- what a program updates
 
@@ -83,7 +83,7 @@ updated-name start place formed updates =
     there
     ∙ e
     ∙ ap Some (sym (
-    let t = chained (name_of start.root start.owned) (dd_named start.owned master) name e in
+    let t = and_then-some (name_of start.root start.owned) (dd_named start.owned master) name e in
     ap (λ (o : Option Dd). option_map_or (λ dd. option_map_or (λ name. name) (name_of start.root start.owned dd) []) o [])
     (find-same (has_role start.owned.step.program) (λ dd. is_updates dd.role) (λ dd. same_name master dd.name) start.owned.step.dds (formed-roles start.root start.owned formed)
     (λ dd has. ap is_updates (dd_role start.owned.step.program dd has) ∙ ap (λ program. is_updates (role_of program dd.name)) is_it ∙ updates_is dd.name)

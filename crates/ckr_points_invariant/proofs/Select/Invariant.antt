@@ -7,7 +7,7 @@ use Rattle.std.proofs.lemmas.Bool.{false≢true, or_left, or_right}
 use Rattle.std.proofs.lemmas.List.Folds.{list_any-append}
 use Rattle.std.proofs.lemmas.Option.{same_Some}
 use Rattle.ckr_base.proofs.Bools.{bool-cases, or-cases, or-not-first}
-use Rattle.ckr_base.proofs.Numbers.{equal-itself, equal-true, number-cases}
+use Rattle.ckr_base.proofs.Numbers.{equal-apart, equal-itself, equal-true, number-cases}
 use Rattle.ckr_base.proofs.Options.{is_some-from, is_some-true, option-cases, some-not-none, some-one}
 use Rattle.ckr_base.proofs.Sequences.{all-get, each-implies}
 use Rattle.ckr_uses.specs.Uses.{holds, is_exclusive_of, uses_of}
@@ -32,7 +32,6 @@ use Rattle.ckr_points_invariant.proofs.Holders.CommonNames.{holds-turned, withou
 use Rattle.ckr_points_invariant.proofs.Holders.JobNames.{one-row-keeps, uses-stay}
 use Rattle.ckr_points_invariant.proofs.Holders.Rows.{PointsStay, place-stays, queued-is, run-other, run-same}
 use Rattle.ckr_points_invariant.proofs.Holders.SharedSets.{at-left}
-use Rattle.ckr_points_invariant.proofs.Marks.Points.{differs}
 use Rattle.ckr_points_invariant.proofs.Holders.Moves.{Among, standing-is}
 use Rattle.ckr_points_invariant.proofs.Select.Holders.{all_legs, free-of, holder-of, leg_here, leg_there}
 use Rattle.ckr_points_invariant.proofs.Holders.Uses.{holder-leaves, holder-uses, names-used, none-exclusive, shared-left}
@@ -101,7 +100,7 @@ module _ (layout : Layout) (office : Office) (row : RunRow) (initiator : ℕ) (k
   led_here = leg_here leg office.legs waits.alone
 
   pub led_there : (other : ℕ) → other ≢ row.number → leg_of chosen other ≡ leg_of office other
-  led_there other apart = leg_there leg other office.legs (differs row.number other (λ e. apart (sym e)))
+  led_there other apart = leg_there leg other office.legs (equal-apart row.number other (λ e. apart (sym e)))
 
   here_now : IsHolder chosen row.number next leg
   here_now = record { row_at = row_here; holds = refl; leg_at = led_here }

@@ -5,7 +5,7 @@ use Rattle.std.specs.Option.{option_map, option_map_or}
 use Rattle.std.proofs.lemmas.Bool.{false≢true}
 use Rattle.std.proofs.lemmas.Option.{same_Some}
 use Rattle.ckr_base.proofs.Bools.{bool-cases}
-use Rattle.ckr_base.proofs.Numbers.{equal-true}
+use Rattle.ckr_base.proofs.Numbers.{equal-apart, equal-true}
 use Rattle.ckr_base.proofs.Options.{option-cases, some-not-none}
 use Rattle.ckr_base.proofs.Sequences.{length-take, take-next}
 use Rattle.ckr_jcl.specs.declared.deck.After.{After}
@@ -30,7 +30,6 @@ use Rattle.ckr_points_invariant.specs.RunningSteps.{start_of}
 use Rattle.ckr_points.specs.Office.{Leg, Office, leg_of}
 use Rattle.ckr_points.specs.Soundness.{stamped_writes}
 use Rattle.ckr_points_invariant.proofs.Holders.Rows.{step-all}
-use Rattle.ckr_points_invariant.proofs.Marks.Points.{differs}
 use Rattle.ckr_points_invariant.proofs.Stamps.Steps.{IsOfStep, Outcome, opened-outcome, within-outcome}
 use Rattle.ckr_points_invariant.proofs.Steps.Walks.{at-before, at-opened, at-within, start_at-of}
 
@@ -190,7 +189,7 @@ module _ (office : Office) (leg : Leg) (number : ℕ) (led : leg_of office numbe
       bool-cases (set.stamp.run == owned.owner)
       (λ mine.
       let low : set.stamp.step < step = (sits set e).early (equal-true set.stamp.run owned.owner mine ∙ owns step owned found) in
-      ap (λ b. b && set.stamp.step == step) mine ∙ differs set.stamp.step step (λ same. absurd (omega (arith, low, same))))
+      ap (λ b. b && set.stamp.step == step) mine ∙ equal-apart set.stamp.step step (λ same. absurd (omega (arith, low, same))))
       (λ other. ap (λ b. b && set.stamp.step == step) other)
 
   formed_step : (step : ℕ) (owned : OwnedStep) → step_at leg.job step ≡ Some owned → is_formed_step leg.job.root owned ≡ true

@@ -1,11 +1,11 @@
 -- Stamps: what kept events say of the records of the tables, and of an office with other tables.
-use Rattle.std.proofs.Common.{◌≡◌, ◌≤◌, ℕ, zero, suc, true, false, if◌then◌else◌, List, [], ◌∷◌, flat_map, take, length, refl, ap, sym, ◌∙◌, subst, Option, Some, None, arith}
+use Rattle.std.proofs.Common.{◌≡◌, ◌≤◌, ℕ, true, false, if◌then◌else◌, List, [], ◌∷◌, flat_map, take, length, refl, ap, sym, ◌∙◌, subst, Option, Some, None, arith}
 use Rattle.std.specs.List.{AllByRecursion}
 use Rattle.std.specs.Option.{option_map, option_map_or, is_some}
 use Rattle.std.proofs.lemmas.Bool.{false≢true}
 use Rattle.std.proofs.lemmas.Option.{same_Some}
 use Rattle.ckr_base.proofs.Options.{option-cases, some-not-none}
-use Rattle.ckr_base.proofs.Sequences.{each-append, each-implies, find-holds}
+use Rattle.ckr_base.proofs.Sequences.{each-append, each-implies, find-holds, take-short}
 use Rattle.ckr_entry.specs.declared.point.Mark.{Mark}
 use Rattle.ckr_entry.specs.declared.point.Present.{Present}
 use Rattle.ckr_library.specs.declared.sets.Content.{Content}
@@ -127,13 +127,8 @@ library-begun layout office name kept =
         let library : Library = option_map_or (λ leg. (standing_at office leg).sets) leg office.library in
         AreAlike office.tables.sets library name × ((set : LibrarySet) → entry_at library name ≡ Some set → HasBegun office name set)
 
-shorter : {A : Type 0} (count : ℕ) (items : List A) → length (take count items) ≤ length items
-shorter zero items = omega arith
-shorter (suc count) [] = omega arith
-shorter (suc count) (first ∷ rest) = let e : length (take count rest) ≤ length rest = shorter count rest in omega (arith, e)
-
 prefix_length : {A : Type 0} (first second : List A) → IsPrefix first second → length first ≤ length second
-prefix_length first second begins = let e : length (take (length first) second) ≤ length second = shorter (length first) second in let same : length (take (length first) second) ≡ length first = ap length begins in omega (arith, e, same)
+prefix_length first second begins = let e : length (take (length first) second) ≤ length second = take-short (length first) second in let same : length (take (length first) second) ≡ length first = ap length begins in omega (arith, e, same)
 
 -- a leg that a stamp has
 pub led-by-begun : (office : Office) (name : Name) (set : LibrarySet) → HasBegun office name set → is_some (leg_of office set.stamp.run) ≡ true

@@ -3,13 +3,12 @@ use Rattle.std.proofs.Common.{◌≡◌, ◌≤◌, ◌<◌, ℕ, zero, suc, pre
 use Rattle.std.specs.Prelude.{nat_lt}
 use Rattle.std.specs.List.{list_all}
 use Rattle.std.proofs.lemmas.Bool.{and_from}
-use Rattle.std.proofs.lemmas.Bool.Decides.{nat_tests}
 use Rattle.std.proofs.lemmas.List.Elements.{filter-append}
 use Rattle.std.proofs.lemmas.List.Folds.{list_all-append}
 use Rattle.ckr_base.specs.declared.programs.Finish.{Finish}
 use Rattle.ckr_base.specs.declared.programs.Finish.TheVariants.{Returned, Abend}
 use Rattle.ckr_base.proofs.Bools.{and-first, and-second}
-use Rattle.ckr_base.proofs.Numbers.{nat_lt-true}
+use Rattle.ckr_base.proofs.Numbers.{nat_lt-beyond, nat_lt-from, nat_lt-true}
 use Rattle.ckr_base.proofs.Sequences.{all-implies}
 use Rattle.ckr_meaning.specs.EffectiveJob.{Effective, OwnedStep}
 use Rattle.ckr_meaning.specs.JobRun.{StepCodes, Walk, is_bypassed, rc_of, start_in, step_walked, walk_before, walk_from, walked, walked_by, walked_one}
@@ -21,16 +20,10 @@ use Rattle.ckr_points.specs.Restart.{rcs_before}
 abbrev are_before : ℕ → StepCodes → Bool
 are_before step rcs = list_all (λ at. nat_lt at.0 step) rcs
 
-lt-from : (one other : ℕ) → one < other → nat_lt one other ≡ true
-lt-from one other below = grind (arith, nat_tests)
-
-lt-not : (one other : ℕ) → other ≤ one → nat_lt one other ≡ false
-lt-not one other above = grind (arith, nat_tests)
-
 before-more : (step later : ℕ) (rcs : StepCodes) → step ≤ later → are_before step rcs ≡ true → are_before later rcs ≡ true
 before-more step later rcs below each =
     all-implies (λ (at : ℕ × ℕ). nat_lt at.0 step) (λ (at : ℕ × ℕ). nat_lt at.0 later) rcs
-    (λ at its. let under : at.0 < step = nat_lt-true at.0 step its in lt-from at.0 later (omega (arith, under, below))) each
+    (λ at its. let under : at.0 < step = nat_lt-true at.0 step its in nat_lt-from at.0 later (omega (arith, under, below))) each
 
 before-all : (step : ℕ) (rcs : StepCodes) → are_before step rcs ≡ true → rcs_before step rcs ≡ rcs
 before-all step [] each = refl
@@ -40,7 +33,7 @@ before-all step (first ∷ rest) each =
 
 -- a step adds its own
 own-codes : (number : ℕ) (finish : Finish) → are_before (suc number) (rc_of number finish) ≡ true
-own-codes number (Returned rc) = and_from (nat_lt number (suc number)) true (lt-from number (suc number) (omega arith)) refl
+own-codes number (Returned rc) = and_from (nat_lt number (suc number)) true (nat_lt-from number (suc number) (omega arith)) refl
 own-codes number (Abend code) = refl
 
 step-codes : (start : StepStart) (walk : Walk) → are_before start.number walk.rcs ≡ true → are_before (suc start.number) (step_walked start walk).rcs ≡ true
@@ -81,7 +74,7 @@ walk-codes job library step begun =
 pub codes-behind : (step ended rc : ℕ) (rcs : StepCodes) → step ≤ ended → rcs_before step (rcs ++ (ended, rc) ∷ []) ≡ rcs_before step rcs
 codes-behind step ended rc rcs behind =
     filter-append (λ (at : ℕ × ℕ). nat_lt at.0 step) rcs ((ended, rc) ∷ [])
-    ∙ ap (λ b. rcs_before step rcs ++ cond b ((ended, rc) ∷ []) []) (lt-not ended step behind)
+    ∙ ap (λ b. rcs_before step rcs ++ cond b ((ended, rc) ∷ []) []) (nat_lt-beyond ended step behind)
     ∙ nothing (rcs_before step rcs)
   where
     nothing : (codes : StepCodes) → codes ++ [] ≡ codes

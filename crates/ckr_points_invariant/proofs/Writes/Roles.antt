@@ -1,7 +1,7 @@
 -- Where the writes of a step go: to its outputs, and a rewrite to what its program updates.
 use Rattle.std.proofs.Common.{◌≡◌, ℕ, Bool, true, false, ◌&&◌, List, [], ◌∷◌, ◌++◌, filter, map, refl, ap, sym, ◌∙◌, subst, Option, Some, None}
 use Rattle.std.proofs.lemmas.Bool.{false≢true}
-use Rattle.std.specs.Prelude.{◌==◌, option_and_then}
+use Rattle.std.specs.Prelude.{◌==◌}
 use Rattle.std.specs.List.{list_all, list_any}
 use Rattle.std.specs.Option.{option_map_or}
 use Rattle.std.proofs.lemmas.Option.{same_Some}
@@ -9,7 +9,7 @@ use Rattle.ckr_base.specs.declared.programs.Output.{Output}
 use Rattle.ckr_base.specs.declared.programs.Output.TheVariants.{Main, Rejects, InPlace}
 use Rattle.ckr_base.specs.declared.programs.Write.{Write}
 use Rattle.ckr_base.proofs.Bools.{and-first, and-second}
-use Rattle.ckr_base.proofs.Options.{some-not-none}
+use Rattle.ckr_base.proofs.Options.{and_then-some, some-not-none}
 use Rattle.ckr_base.proofs.Sequences.{any-filter, find-all, find-any, find-passes}
 use Rattle.ckr_uses.specs.Uses.{are_distinct}
 use Rattle.ckr_jcl.specs.declared.deck.Dd.{Dd}
@@ -165,15 +165,11 @@ pub record IsTarget (start : StepStart) (output : Output) (name : Name) (dd : Dd
   pub found : dd_named start.owned dd_name ≡ Some dd
   pub has : name_of start.root start.owned dd ≡ Some name
 
-pub chained : {A B : Type 0} (f : A → Option B) (o : Option A) (b : B) → option_and_then f o ≡ Some b → (a : A) × (o ≡ Some a) × (f a ≡ Some b)
-chained f None b e = absurd (some-not-none b (sym e))
-chained f (Some a) b e = (a, refl, e)
-
 pub target : (start : StepStart) (output : Output) (name : Name) → output_name start output ≡ Some name → (dd : Dd) × IsTarget start output name dd
 unfolding output_name
 target start output name e =
-    let one = chained (set_name start) (output_dd start.owned.step.program output) name e in
-    let other = chained (name_of start.root start.owned) (dd_named start.owned one.0) name one.2 in
+    let one = and_then-some (set_name start) (output_dd start.owned.step.program output) name e in
+    let other = and_then-some (name_of start.root start.owned) (dd_named start.owned one.0) name one.2 in
     (other.0, record { dd_name = one.0; named = one.1; found = other.1; has = other.2 })
 
 pub formed-roles : (root : ℕ) (owned : OwnedStep) → is_formed_step root owned ≡ true → list_all (has_role owned.step.program) owned.step.dds ≡ true

@@ -9,7 +9,7 @@ use Rattle.std.proofs.lemmas.Nat.{le-div}
 use Rattle.std.proofs.lemmas.Option.{same_Some}
 use Rattle.ckr_base.proofs.Bools.{and-first, and-second, bool-cases}
 use Rattle.ckr_base.proofs.Numbers.{equal-true, nat_le-beyond, nat_le-from, nat_le-true}
-use Rattle.ckr_base.proofs.Options.{is_some-true, option-cases, some-one}
+use Rattle.ckr_base.proofs.Options.{is_some-true, option-cases, option_map-some, some-one}
 use Rattle.ckr_base.proofs.Sequences.{each-append}
 use Rattle.ckr_entry.specs.declared.point.Present.{Present}
 use Rattle.ckr_library.specs.Catalog.{ends_within, records_of}
@@ -42,7 +42,7 @@ use Rattle.ckr_points_invariant.proofs.Steps.Commits.{found_leg, place_so, under
 use Rattle.ckr_points_invariant.proofs.Steps.Walks.{at-opened, start_at-of}
 use Rattle.ckr_points_invariant.proofs.WrittenEntries.Growth.{long-changed, long-committed}
 use Rattle.ckr_points_invariant.proofs.WrittenEntries.Offices.{IsGrown}
-use Rattle.ckr_points_invariant.proofs.WrittenEntries.Sets.{EachHas, changed-was}
+use Rattle.ckr_points_invariant.proofs.WrittenEntries.Sets.{EachHas}
 use Rattle.ckr_points_invariant.specs.Restorability.{HasPoint}
 use Rattle.ckr_points_invariant.specs.RunningSteps.{IsRunning, its_start}
 
@@ -245,7 +245,7 @@ module _ (layout : Layout) (now : Office) (job : ℕ) (row : RunRow) (leg : Leg)
     where
       own : entry_at sets_then set ≡ Some table → HasWrittenEntries now set table
       own here =
-          let old = changed-was (with_kept_entry new_entry) (entry_at done_sets set) table
+          let old = option_map-some (with_kept_entry new_entry) (entry_at done_sets set) table
           (sym (at-with_changed set set (with_kept_entry new_entry) done_sets ∙ ap (λ b. cond b (option_map (with_kept_entry new_entry) (entry_at done_sets set)) (entry_at done_sets set)) (name-itself set)) ∙ here) in
           let same : with_kept_entry new_entry old.0 ≡ keeps_new.table = old.2 ∙ some-one table keeps_new.table (entry_at sets_then set) here keeps_new.at in
           subst (HasWrittenEntries now set) old.2

@@ -4,6 +4,7 @@ use Rattle.std.specs.List.{list_all, AllByRecursion}
 use Rattle.std.proofs.lemmas.Bool.{and_from}
 use Rattle.ckr_base.proofs.Bools.{and-first, and-second, bool-cases}
 use Rattle.ckr_base.proofs.Options.{some-one}
+use Rattle.ckr_base.proofs.Sequences.{each-filter}
 use Rattle.ckr_jcl.specs.declared.deck.Job.{Job}
 use Rattle.ckr_library.specs.Catalog.{ends_within}
 use Rattle.ckr_library.specs.NameMaps.{Name}
@@ -20,10 +21,6 @@ use Rattle.ckr_points_invariant.proofs.WrittenEntries.Sets.{GoesOnThrough}
 
 -- ---- lists
 
-pub each-with : {X : Type 0} (P Q R : X → Type 0) (xs : List X) → ((x : X) → P x → Q x → R x) → AllByRecursion P xs → AllByRecursion Q xs → AllByRecursion R xs
-each-with P Q R [] both first second = tt
-each-with P Q R (x ∷ xs) both first second = (both x first.0 second.0, each-with P Q R xs both first.1 second.1)
-
 pub each-any : {X : Type 0} (P : X → Type 0) (xs : List X) → ((x : X) → P x) → AllByRecursion P xs
 each-any P [] all = tt
 each-any P (x ∷ xs) all = (all x, each-any P xs all)
@@ -31,14 +28,6 @@ each-any P (x ∷ xs) all = (all x, each-any P xs all)
 pub all-each : {X : Type 0} (test : X → Bool) (xs : List X) → list_all test xs ≡ true → AllByRecursion (λ x. test x ≡ true) xs
 all-each test [] each = tt
 all-each test (x ∷ xs) each = (and-first (test x) _ each, all-each test xs (and-second (test x) _ each))
-
-each-fewer : {X : Type 0} (P : X → Type 0) (kept : X → Bool) (xs : List X) → AllByRecursion P xs → AllByRecursion P (filter kept xs)
-each-fewer P kept [] each = tt
-each-fewer P kept (first ∷ rest) each =
-    elim (kept first) as (λ b. AllByRecursion P (cond b (first ∷ filter kept rest) (filter kept rest))) [
-      | true ↦ (each.0, each-fewer P kept rest each.1)
-      | false ↦ each-fewer P kept rest each.1
-    ]
 
 pub all-kept : {X : Type 0} (kept : X → Bool) (xs : List X) → list_all kept (filter kept xs) ≡ true
 all-kept kept [] = refl
@@ -54,7 +43,7 @@ pub entries-through : (office : Office) → GoesOnThrough (HasWrittenEntries off
 entries-through office = record {
   cut = λ name table most its. record {
     ends = all-kept (λ entry. ends_within most entry.kept) table.entries;
-    written = each-fewer (IsWrittenEntry office name) (λ entry. ends_within most entry.kept) table.entries its.written;
+    written = each-filter (IsWrittenEntry office name) (λ entry. ends_within most entry.kept) table.entries its.written;
   };
   marked = λ name table on its. record { ends = its.ends; written = its.written };
   stamped = λ name table stamp its. record { ends = its.ends; written = its.written };

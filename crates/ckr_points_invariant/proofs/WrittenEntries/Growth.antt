@@ -7,7 +7,7 @@ use Rattle.std.specs.Option.{option_map, option_map_or}
 use Rattle.std.proofs.lemmas.Bool.{false≢true}
 use Rattle.ckr_base.proofs.Bools.{and-first, and-second, bool-cases, or-cases}
 use Rattle.ckr_base.proofs.Numbers.{nat_le-true}
-use Rattle.ckr_base.proofs.Options.{option-cases, some-one}
+use Rattle.ckr_base.proofs.Options.{option-cases, option_map-some, some-one}
 use Rattle.ckr_entry.specs.declared.point.Mark.{Mark}
 use Rattle.ckr_entry.specs.declared.point.Present.{Present}
 use Rattle.ckr_library.specs.NameMaps.{Name, Named, entry_at, same_name, with_changed}
@@ -24,7 +24,6 @@ use Rattle.ckr_points_invariant.specs.WrittenEntries.{check_set, is_no_shorter}
 use Rattle.ckr_points_invariant.proofs.Readiness.Commits.{HasTable, committed-has}
 use Rattle.ckr_points_invariant.proofs.Readiness.Runs.{kept-entry}
 use Rattle.ckr_points_invariant.proofs.PutBack.Sets.{back_to, changed_if, put_back-marked, put_back-none, to_catalog}
-use Rattle.ckr_points_invariant.proofs.WrittenEntries.Sets.{changed-was}
 
 -- the data set of an output with a length is there
 among-there : (sets : Named TableSet) (names : List Name) (lengths : List ℕ) (name : Name) → are_lengths sets names lengths ≡ true → is_among names name ≡ true → (table : TableSet) × (entry_at sets name ≡ Some table)
@@ -69,7 +68,7 @@ module _ (row : RunRow) (owned : OwnedStep) (marks : List Mark) where
   long-changed to change sets same long present table among marked there =
       bool-cases (same_name set to)
       (λ here.
-      let old = changed-was change (entry_at sets set) table (sym (ap (λ b. cond b (option_map change (entry_at sets set)) (entry_at sets set)) here) ∙ sym (at-with_changed to set change sets) ∙ there) in
+      let old = option_map-some change (entry_at sets set) table (sym (ap (λ b. cond b (option_map change (entry_at sets set)) (entry_at sets set)) here) ∙ sym (at-with_changed to set change sets) ∙ there) in
       let below : present.length ≤ old.0.set.length = long present old.0 among marked old.1 in
       subst (λ n. present.length ≤ n) (sym (same old.0) ∙ ap (λ (its : TableSet). its.set.length) old.2) below)
       (λ apart. long present table among marked (sym (ap (λ b. cond b (option_map change (entry_at sets set)) (entry_at sets set)) apart) ∙ sym (at-with_changed to set change sets) ∙ there))
@@ -90,7 +89,7 @@ module _ (row : RunRow) (owned : OwnedStep) (marks : List Mark) where
       option-cases (present_at other set)
       (λ none. long present table among marked (sym (put_back-none other (output_names row.job.root owned) needed sets set none) ∙ there))
       (λ later has.
-      let old = changed-was (back_to true (is_among needed set) later) (entry_at sets set) table
+      let old = option_map-some (back_to true (is_among needed set) later) (entry_at sets set) table
       (sym (put_back-marked other (output_names row.job.root owned) needed sets later set has ∙ ap (λ b. option_map (back_to b (is_among needed set) later) (entry_at sets set)) among) ∙ there) in
       let below : present.length ≤ later.length =
       nat_le-true present.length later.length

@@ -4,6 +4,7 @@ use Rattle.std.specs.List.{AllByRecursion, find}
 use Rattle.std.specs.Option.{option_map_or}
 use Rattle.ckr_base.proofs.Numbers.{number-cases}
 use Rattle.ckr_base.proofs.Options.{some-one}
+use Rattle.ckr_base.proofs.Sequences.{each-both}
 use Rattle.ckr_library.specs.NameMaps.{Name, Named, entry_at, same_name}
 use Rattle.ckr_meaning.specs.EffectiveJob.{OwnedStep, is_among}
 use Rattle.ckr_meaning.specs.LibrarySet.{Library}
@@ -22,7 +23,7 @@ use Rattle.ckr_points_invariant.proofs.OtherRuns.Sets.{LeavesApart}
 use Rattle.ckr_points_invariant.proofs.Readiness.Office.{output-apart}
 use Rattle.ckr_points_invariant.proofs.StartedSteps.Offices.{IsOnlyRow}
 use Rattle.ckr_points_invariant.proofs.StartedSteps.Rows.{only-row, row-here}
-use Rattle.ckr_points_invariant.proofs.WrittenEntries.Entries.{KeepsItsPoints, KeepsJob, KeepsStep, each-any, each-with, written-next, written-other}
+use Rattle.ckr_points_invariant.proofs.WrittenEntries.Entries.{KeepsItsPoints, KeepsJob, KeepsStep, each-any, written-next, written-other}
 use Rattle.ckr_points_invariant.proofs.WrittenEntries.Sets.{EachHas}
 
 -- the entry of an identifier, by the data set
@@ -66,7 +67,7 @@ module _ (layout : Layout) (now : Office) (kept : IsAgreed layout now) (pointed 
           record {
             ends = its.ends;
             written =
-                each-with (IsWrittenEntry now set) (λ (entry : KeptEntry). entry.point.run ≡ job → IsWrittenEntry now set entry → IsWrittenEntry later set entry) (IsWrittenEntry later set) table.entries
+                each-both (IsWrittenEntry now set) (λ (entry : KeptEntry). entry.point.run ≡ job → IsWrittenEntry now set entry → IsWrittenEntry later set entry) (IsWrittenEntry later set) table.entries
                 (λ entry was mine. number-cases entry.point.run job (λ here. mine here was) (λ apart. written-other now later job only set entry apart was))
                 its.written (own set table there);
           };

@@ -9,8 +9,8 @@ use Rattle.std.proofs.lemmas.Option.{same_Some}
 use Rattle.ckr_base.specs.declared.code.Code.{Code}
 use Rattle.ckr_base.proofs.Bools.{and-first, and-second, bool-cases, or-cases}
 use Rattle.ckr_base.proofs.Numbers.{equal-true, number-cases}
-use Rattle.ckr_base.proofs.Options.{option-cases, some-not-none, some-one}
-use Rattle.ckr_base.proofs.Sequences.{find-passes}
+use Rattle.ckr_base.proofs.Options.{option-cases, option_map-some, some-not-none, some-one}
+use Rattle.ckr_base.proofs.Sequences.{each-both, find-passes}
 use Rattle.ckr_entry.specs.declared.point.Mark.{Mark}
 use Rattle.ckr_entry.specs.declared.point.Present.{Present}
 use Rattle.ckr_events.specs.declared.event.Event.TheVariants.{Restarted}
@@ -40,10 +40,10 @@ use Rattle.ckr_points_invariant.proofs.Readiness.Runs.{kept-entry}
 use Rattle.ckr_points_invariant.proofs.Readiness.Restarts.{back-keeps}
 use Rattle.ckr_points_invariant.proofs.PutBack.Sets.{at-removed_all, back_to, changed_if, put_back-marked, put_back-none, to_catalog}
 use Rattle.ckr_points_invariant.proofs.Restart.Event.{by-run, entry-by, entry-left, row_back, row_then, sets_then, sets_then_back, start-by, start-left}
-use Rattle.ckr_points_invariant.proofs.WrittenEntries.Entries.{KeepsItsPoints, KeepsStep, all-each, all-kept, each-any, each-with, entries-through, same-points, same-step, written-by}
+use Rattle.ckr_points_invariant.proofs.WrittenEntries.Entries.{KeepsItsPoints, KeepsStep, all-each, all-kept, each-any, entries-through, same-points, same-step, written-by}
 use Rattle.ckr_points_invariant.proofs.WrittenEntries.Growth.{IsEffectLong, effect-kept, long-back}
 use Rattle.ckr_points_invariant.proofs.WrittenEntries.Offices.{own-entry, written-moved, written-with}
-use Rattle.ckr_points_invariant.proofs.WrittenEntries.Sets.{changed-was, put_back-has, removed_all-has}
+use Rattle.ckr_points_invariant.proofs.WrittenEntries.Sets.{put_back-has, removed_all-has}
 
 -- ---- the entries of a data set that is cut to its mark
 
@@ -124,7 +124,7 @@ module _ (layout : Layout) (now : Office) (kept : IsAgreed layout now) (pointed 
     gone-marked set table present marked there its old was =
         bool-cases (is_among outputs set)
         (λ among.
-        each-with (IsWrittenEntry now set) (λ (entry : KeptEntry). ends_within present.length entry.kept ≡ true) IsGone table.entries
+        each-both (IsWrittenEntry now set) (λ (entry : KeptEntry). ends_within present.length entry.kept ≡ true) IsGone table.entries
         (λ entry own ends here at_step.
         let of_step : IsOfStep set entry = of-step set entry here at_step own in
         false≢true
@@ -134,7 +134,7 @@ module _ (layout : Layout) (now : Office) (kept : IsAgreed layout now) (pointed 
         (all-each (λ (entry : KeptEntry). ends_within present.length entry.kept) table.entries
         (subst (λ (one : TableSet). list_all (λ (entry : KeptEntry). ends_within present.length entry.kept) one.entries ≡ true) (cut among)
         (cut-ends (is_among needed set) present old (ends_of old was)))))
-        (λ out. each-with (IsWrittenEntry now set) (IsWrittenEntry now set) IsGone table.entries (λ entry own again here at_step. false≢true (sym out ∙ (of-step set entry here at_step own).output)) its.written its.written)
+        (λ out. each-both (IsWrittenEntry now set) (IsWrittenEntry now set) IsGone table.entries (λ entry own again here at_step. false≢true (sym out ∙ (of-step set entry here at_step own).output)) its.written its.written)
       where
         ends_of : (old : TableSet) → entry_at left set ≡ Some old → list_all (λ (entry : KeptEntry). ends_within old.set.length entry.kept) old.entries ≡ true
         ends_of old was = (removed_all-has Has (entries-through now) removed now.tables.sets written.sets set old was).ends
@@ -149,7 +149,7 @@ module _ (layout : Layout) (now : Office) (kept : IsAgreed layout now) (pointed 
     -- what isn't marked present, but absent, is removed
     gone-absent : (set : Name) (table : TableSet) → present_at point.marks set ≡ None → entry_at back set ≡ Some table → HasWrittenEntries now set table → AllByRecursion IsGone table.entries
     gone-absent set table none there its =
-        each-with (IsWrittenEntry now set) (IsWrittenEntry now set) IsGone table.entries
+        each-both (IsWrittenEntry now set) (IsWrittenEntry now set) IsGone table.entries
         (λ entry own again here at_step.
         let of_step : IsOfStep set entry = of-step set entry here at_step own in
         let absent : is_marked_absent point.marks set ≡ true =
@@ -168,7 +168,7 @@ module _ (layout : Layout) (now : Office) (kept : IsAgreed layout now) (pointed 
         option-cases (present_at point.marks set)
         (λ none. gone-absent set table none there its)
         (λ present marked.
-        let old = changed-was (back_to (is_among outputs set) (is_among needed set) present) (entry_at left set) table (sym (put_back-marked point.marks outputs needed left present set marked) ∙ there) in
+        let old = option_map-some (back_to (is_among outputs set) (is_among needed set) present) (entry_at left set) table (sym (put_back-marked point.marks outputs needed left present set marked) ∙ there) in
         gone-marked set table present marked there its old.0 old.1)
       where
         its : HasWrittenEntries now set table
@@ -212,7 +212,7 @@ module _ (layout : Layout) (now : Office) (kept : IsAgreed layout now) (pointed 
       (λ name apart. start-left layout now job initiator code deck kept pointed can row leg its owned found point got name (apart row leg its.holder))
       (put_back-has Has (entries-through now) point.marks (output_names row.job.root owned) (names_of row.job.root owned) _ (removed_all-has Has (entries-through now) (own_made row owned (step_now row)) now.tables.sets written.sets))
       (λ set table there.
-      each-with (λ (entry : KeptEntry). entry.point.run ≡ job → entry.point.step ≢ step_now row) (λ (entry : KeptEntry). Unit {0}) (λ (entry : KeptEntry). entry.point.run ≡ job → IsWrittenEntry now set entry → IsWrittenEntry later set entry) table.entries
+      each-both (λ (entry : KeptEntry). entry.point.run ≡ job → entry.point.step ≢ step_now row) (λ (entry : KeptEntry). Unit {0}) (λ (entry : KeptEntry). entry.point.run ≡ job → IsWrittenEntry now set entry → IsWrittenEntry later set entry) table.entries
       (λ entry gone any here.
       own-entry layout now kept pointed ready written job row row next leg now.tables sets now.library its.holder its.holder.row_at refl (λ number apart. refl) set entry (record { job = refl; deck = refl; own_from = refl; selected = λ was. refl })
       (restarted-points job row leg owned point its.holder.row_at its.holder.leg_at found got its.holder.holds next refl)

@@ -1,12 +1,12 @@
 -- What holds of each data set under its name goes on to hold through what an event does to data sets: they are cut, marked, stamped and
 -- removed, and none comes with an entry.
-use Rattle.std.proofs.Common.{◌≡◌, ◌≤◌, ℕ, Bool, true, false, cond, List, [], ◌∷◌, if◌then◌else◌, refl, ap, sym, ◌∙◌, subst, Option, Some, None, arith}
+use Rattle.std.proofs.Common.{◌≡◌, ◌≤◌, ℕ, Bool, true, false, cond, List, [], ◌∷◌, if◌then◌else◌, refl, ap, sym, ◌∙◌, subst, Some, None, arith}
 use Rattle.std.specs.Prelude.{nat_le}
 use Rattle.std.specs.Option.{option_map}
 use Rattle.std.proofs.lemmas.Option.{same_Some}
 use Rattle.ckr_base.proofs.Bools.{bool-cases}
 use Rattle.ckr_base.proofs.Numbers.{nat_le-true}
-use Rattle.ckr_base.proofs.Options.{option-cases, some-not-none}
+use Rattle.ckr_base.proofs.Options.{option-cases, option_map-some, some-not-none}
 use Rattle.ckr_entry.specs.declared.point.Mark.{Mark}
 use Rattle.ckr_entry.specs.declared.point.Passed.{Passed}
 use Rattle.ckr_entry.specs.declared.point.Present.{Present}
@@ -25,11 +25,6 @@ use Rattle.ckr_points.specs.Marks.{present_at, put_back, removed_all}
 use Rattle.ckr_points.specs.Rows.{TableSet, cut_set, table_ways}
 use Rattle.ckr_points.specs.Tables.{committed, fresh_table, made_table, made_tables, parts_from, table_rewritten}
 use Rattle.ckr_points_invariant.proofs.PutBack.Sets.{at-removed_all, back_to, changed_if, put_back-marked, put_back-none, to_catalog, to_length}
-
--- what is there behind a change was there before
-pub changed-was : {X Y : Type 0} (change : X → Y) (entry : Option X) (y : Y) → option_map change entry ≡ Some y → (old : X) × (entry ≡ Some old) × (change old ≡ y)
-changed-was change None y e = absurd (some-not-none y (sym e))
-changed-was change (Some old) y e = (old, refl, same_Some (change old) y e)
 
 -- it holds of each data set
 abbrev pub EachHas : (Name → TableSet → Type 0) → Named TableSet → Type 0
@@ -54,7 +49,7 @@ module _ (E : Name → TableSet → Type 0) where
   changed-has to change sets keeps each name table e =
       bool-cases (same_name name to)
       (λ same.
-      let old = changed-was change (entry_at sets name) table (sym (ap (λ b. cond b (option_map change (entry_at sets name)) (entry_at sets name)) same) ∙ sym (at-with_changed to name change sets) ∙ e) in
+      let old = option_map-some change (entry_at sets name) table (sym (ap (λ b. cond b (option_map change (entry_at sets name)) (entry_at sets name)) same) ∙ sym (at-with_changed to name change sets) ∙ e) in
       subst (E name) old.2 (keeps name old.0 (each name old.0 old.1)))
       (λ apart. each name table (sym (ap (λ b. cond b (option_map change (entry_at sets name)) (entry_at sets name)) apart) ∙ sym (at-with_changed to name change sets) ∙ e))
 
@@ -149,7 +144,7 @@ module _ (E : Name → TableSet → Type 0) (through : GoesOnReduced E) where
       option-cases (present_at marks name)
       (λ none. each name table (sym (put_back-none marks outputs needed sets name none) ∙ e))
       (λ present has.
-      let old = changed-was (back_to (is_among outputs name) (is_among needed name) present) (entry_at sets name) table (sym (put_back-marked marks outputs needed sets present name has) ∙ e) in
+      let old = option_map-some (back_to (is_among outputs name) (is_among needed name) present) (entry_at sets name) table (sym (put_back-marked marks outputs needed sets present name has) ∙ e) in
       subst (E name) old.2
       (needed-reduced (is_among needed name) present name (changed_if (is_among outputs name) (to_length present) old.0)
       (output-reduced (is_among outputs name) present name old.0 (each name old.0 old.1))))

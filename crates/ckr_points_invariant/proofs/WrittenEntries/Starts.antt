@@ -5,7 +5,7 @@ use Rattle.std.specs.Option.{is_none}
 use Rattle.std.proofs.lemmas.Bool.{false≢true}
 use Rattle.std.proofs.lemmas.Option.{same_Some}
 use Rattle.ckr_base.proofs.Numbers.{number-cases}
-use Rattle.ckr_base.proofs.Options.{some-not-none, some-one}
+use Rattle.ckr_base.proofs.Options.{option_map-some, some-not-none, some-one}
 use Rattle.ckr_entry.specs.declared.point.Present.{Present}
 use Rattle.ckr_events.specs.declared.event.Made.{Made}
 use Rattle.ckr_library.specs.NameMaps.{Name, Named, entry_at}
@@ -39,7 +39,7 @@ use Rattle.ckr_points_invariant.proofs.Start.Openings.{opened-none}
 use Rattle.ckr_points_invariant.proofs.StepEnd.Disposals.{names_made-placed}
 use Rattle.ckr_points_invariant.proofs.WrittenEntries.Entries.{KeepsItsPoints, KeepsStep, entries-through}
 use Rattle.ckr_points_invariant.proofs.WrittenEntries.Offices.{IsGrown, written-moved}
-use Rattle.ckr_points_invariant.proofs.WrittenEntries.Sets.{changed-was, made_all-has, opened_all-has}
+use Rattle.ckr_points_invariant.proofs.WrittenEntries.Sets.{made_all-has, opened_all-has}
 
 module _ (layout : Layout) (now : Office) (job : ℕ) (row : RunRow) (leg : Leg) (owned : OwnedStep) (step : ℕ) (items : List Made) (kept : IsAgreed layout now) (ready : AreReady now) (starts : StartsNow layout now job row leg owned step items) where
   abbrev start : StepStart
@@ -94,7 +94,7 @@ module _ (layout : Layout) (now : Office) (job : ℕ) (row : RunRow) (leg : Leg)
   long_so : (present : Present) (table : TableSet) → is_among (output_names row.job.root owned) (check_set row owned) ≡ true → present_at (marks_now row opened) (check_set row owned) ≡ Some present → entry_at sets (check_set row owned) ≡ Some table → present.length ≤ table.set.length
   long_so present table among marked there =
       let set : Name = check_set row owned in
-      let was = changed-was present_of (entry_at opened set) present (sym (present-now row opened set (in_reach set among).1) ∙ marked) in
+      let was = option_map-some present_of (entry_at opened set) present (sym (present-now row opened set (in_reach set among).1) ∙ marked) in
       let same : was.0 ≡ table = some-one was.0 table (entry_at sets set) (opened_stays set was.0 among was.1) there in
       subst (λ n. n ≤ table.set.length) (ap (λ (one : TableSet). one.set.length) (sym same) ∙ ap (λ (p : Present). p.length) was.2) (omega arith)
 

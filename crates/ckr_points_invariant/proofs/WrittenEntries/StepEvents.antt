@@ -8,7 +8,7 @@ use Rattle.arrayvec.specs.ArrayVec.{ArrayVec}
 use Rattle.ckr_base.specs.declared.code.Code.{Code}
 use Rattle.ckr_base.proofs.Bools.{and-first, and-second}
 use Rattle.ckr_base.proofs.Numbers.{nat_le-true}
-use Rattle.ckr_base.proofs.Options.{some-one}
+use Rattle.ckr_base.proofs.Options.{option_map-some, some-one}
 use Rattle.ckr_events.specs.declared.event.Event.TheVariants.{Checkpointed, Held, Rewritten, Started, StepEnded}
 use Rattle.ckr_events.specs.declared.event.Made.{Made}
 use Rattle.ckr_jcl.specs.declared.deck.Job.{Job}
@@ -47,7 +47,7 @@ use Rattle.ckr_points_invariant.proofs.WrittenEntries.Checkpoints.{checked-grown
 use Rattle.ckr_points_invariant.proofs.WrittenEntries.Entries.{HasPointAs, entries-through, same-points, same-step}
 use Rattle.ckr_points_invariant.proofs.WrittenEntries.Growth.{IsEffectLong, effect-kept, kept-changed, long-changed, long-committed}
 use Rattle.ckr_points_invariant.proofs.WrittenEntries.Offices.{written-moved, written-on}
-use Rattle.ckr_points_invariant.proofs.WrittenEntries.Sets.{changed-was, committed-has, disposed_all-has, rewritten-has}
+use Rattle.ckr_points_invariant.proofs.WrittenEntries.Sets.{committed-has, disposed_all-has, rewritten-has}
 use Rattle.ckr_points_invariant.proofs.WrittenEntries.Starts.{written-step}
 
 -- ---- the points of a run that rewrites
@@ -155,7 +155,7 @@ module _ (layout : Layout) (now : Office) (kept : IsAgreed layout now) (pointed 
       record {
         since = long-changed row owned point.marks updated (table_rewritten owned.owner (step_now row)) behind (λ table. refl) its.since;
         effect = λ effect entry in_effect there.
-            let before = changed-was effect_rewritten row.in_effect effect in_effect in
+            let before = option_map-some effect_rewritten row.in_effect effect in_effect in
             let back : IsEffectLong row owned point.marks behind before.0 = λ one at. its.effect before.0 one before.1 at in
             subst (λ (one : EffectPoint). IsEffectLong row owned point.marks behind one) before.2 back entry
             (sym (kept-changed updated (table_rewritten owned.owner (step_now row)) behind effect.set effect.kept.id (λ table. refl)) ∙ there);

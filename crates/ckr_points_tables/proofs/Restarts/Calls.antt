@@ -7,7 +7,7 @@ use Rattle.ckr_base.specs.declared.code.Code.{Code}
 use Rattle.ckr_base.proofs.Bools.{and-first, and-second, or-cases}
 use Rattle.ckr_base.proofs.Numbers.{nat_lt-true}
 use Rattle.ckr_base.proofs.Options.{some-not-none}
-use Rattle.ckr_base.proofs.Sequences.{get-from}
+use Rattle.ckr_base.proofs.Sequences.{get-from, get-there}
 use Rattle.ckr_entry.specs.declared.point.Mark.{Mark}
 use Rattle.ckr_events.specs.declared.event.Event.TheVariants.{Restarted}
 use Rattle.ckr_jcl.specs.declared.deck.Job.{Job}
@@ -32,7 +32,7 @@ use Rattle.ckr_points_tables.proofs.PutBack.{cut-back-filled, cut-back-wide}
 use Rattle.ckr_points_tables.proofs.RecordWidths.{AreFilled, AreWide}
 use Rattle.ckr_points_tables.proofs.Restarts.Views.{IsLeft, passed-there, restarted-each, restarted-left, restarted-row}
 use Rattle.ckr_points_tables.proofs.RunChanges.{run-in}
-use Rattle.ckr_points_tables.proofs.RunMoves.{IsPlaced, desk_moved, index_moved, is_run, item_there, kept_moved, number_is, of_run-row, only-on, placed_so, run_fits, run_found}
+use Rattle.ckr_points_tables.proofs.RunMoves.{IsPlaced, desk_moved, index_moved, is_run, kept_moved, number_is, of_run-row, only-on, placed_so, run_fits, run_found}
 use Rattle.ckr_points_tables.proofs.Runs.{at_true, length-rows, rows-at}
 use Rattle.ckr_points_tables.proofs.SetViews.{going_viewed}
 
@@ -114,7 +114,7 @@ module _ (a : Inside) (self : RoomyTables) (view : tables_seen a ≡ self) (kept
         by None is on = some-not-none _ (sym on)
         by (Some l) is on =
             let long = length-rows 1 a.lines.items a.tables.items kept.runs in
-            let there = item_there a.tables.items k (omega (arith, long.0, slice_get_within a.lines.items k l is)) in
+            let there = get-there a.tables.items k (omega (arith, long.0, slice_get_within a.lines.items k l is)) in
             none_on desk.runs initiator (and-second _ (list_all (λ (one : RunRow). not (option_eq nat_eq one.initiator (Some initiator))) desk.runs) free) k (row_of l there.0) (rows-at a.lines.items a.tables.items k l there.0 is there.1) on
 
     only-there : (k : ℕ) → initiator_at a.lines.items k ≡ Some initiator → k ≡ job - 1

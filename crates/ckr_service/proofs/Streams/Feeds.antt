@@ -67,11 +67,6 @@ front_take m n xs e = take-take n m xs (omega arith)
 pub front_and_last : (m n : ℕ) (xs : List ℕ) → m ≡ suc n → take m xs ≡ take n xs ++ drop n (take m xs)
 front_and_last m n xs e = sym (ap (λ l. l ++ drop n (take m xs)) (sym (front_take m n xs e)) ∙ take-append-drop n (take m xs))
 
--- the exit of a `?` that hands the error on
-pub handed_on : {T E : Type 0} (r : Result T E) (error : E) (P : E → Type 0) → IsErrAnd r (λ e. e ≡ error) → P error → IfErr r P
-handed_on (Ok x) error P h p = tt
-handed_on (Err e) error P h p = subst P (sym h) p
-
 module _ {D O : Type 0} (content : D → List ℕ) where
   -- ---- the steps
 

@@ -1,11 +1,11 @@
 use Rattle.std.proofs.Common.{◌∙◌, ℕ, List, ap, arith, subst, sym}
+use Rattle.ckr_base.proofs.Results.{err-holds}
 use Rattle.ckr_outside.specs.Faults.{Rose}
 use Rattle.ckr_desk_refines.specs.RewriteRecord.{last_event}
 use Rattle.ckr_desk_store.specs.OpenImages.{event_records}
 use Rattle.ckr_desk.specs.Entries.{ArePointsRead}
 use Rattle.ckr_desk.specs.Soundness.{events_in, last_on}
 use Rattle.ckr_desk.proofs.Openings.Answers.{found_behind, book_cause_behind, rose_before}
-use Rattle.ckr_desk.proofs.Openings.Replay.{handed_on}
 use Rattle.ckr_desk.proofs.Openings.Syncs.{reads-behind, reads-on}
 use Rattle.ckr_desk.proofs.opening.read_disk.Goals as goal
 
@@ -25,7 +25,7 @@ returns-clause-points g c =
 pub returns-in_err-jobs-clause-cause : goal.returns-in_err-jobs-clause-cause
 returns-in_err-jobs-clause-cause g c =
     let d = g.D.Disk in
-    handed_on c.from_residual-in_err-jobs.result c.in_err-jobs.field-0.0 _ c.from_residual-in_err-jobs.ensures.1
+    err-holds c.from_residual-in_err-jobs.result c.in_err-jobs.field-0.0 _ c.from_residual-in_err-jobs.ensures.1
     (book_cause_behind (Rose (d.faults c.args.disk.now) (d.faults c.read_jobs.new.disk)) (Rose (d.faults c.layout_of.new.disk) (d.faults c.read_jobs.new.disk)) d.told
     (d.content c.args.disk.now) (d.content c.sync.new.self) (d.content c.layout_of.new.disk) (d.size c.args.disk.now) c.in_ok-layout.layout c.in_err-jobs.field-0.0
     (rose_before (d.faults c.args.disk.now) (d.faults c.layout_of.new.disk) (d.faults c.read_jobs.new.disk) (omega (arith, c.in_ok-sync.ensures.cause.never_falls, c.in_ok-layout.ensures.faults)))

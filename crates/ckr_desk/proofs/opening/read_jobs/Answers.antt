@@ -1,4 +1,5 @@
 use Rattle.std.proofs.Common.{◌≡◌, ◌∙◌, None, List, ℕ, ap, refl, subst, sym}
+use Rattle.ckr_base.proofs.Results.{err-holds}
 use Rattle.ckr_desk_memory.specs.OwnSteps.{HavePoints}
 use Rattle.ckr_outside.specs.Faults.{Rose}
 use Rattle.ckr_points_tables.specs.View.{RoomyTables}
@@ -6,7 +7,6 @@ use Rattle.ckr_desk.proofs.Layouts.{jobs-stay, kept-opened}
 use Rattle.ckr_desk.proofs.Openings.Accepted.{entries-cause, read-so, replay-cause}
 use Rattle.ckr_desk.proofs.Openings.Answers.{rose_before}
 use Rattle.ckr_desk.proofs.Openings.Points.{points-known}
-use Rattle.ckr_desk.proofs.Openings.Replay.{handed_on}
 use Rattle.ckr_desk.proofs.Openings.Syncs.{reads-on}
 use Rattle.ckr_desk.specs.Entries.{ArePointsRead, EntriesCause, bad_entry}
 use Rattle.ckr_desk.specs.Replay.{IsReadTo}
@@ -41,7 +41,7 @@ returns-clause-kept g c =
 pub returns-in_err-found-clause-cause : goal.returns-in_err-found-clause-cause
 returns-in_err-found-clause-cause g c =
     let d = g.D.Disk in
-    handed_on c.from_residual.result c.in_err-found.field-0.0 _ c.from_residual.ensures.1
+    err-holds c.from_residual.result c.in_err-found.field-0.0 _ c.from_residual.ensures.1
     (replay-cause (Rose (d.faults c.args.disk.now) (d.faults c.replay.new.disk)) d.told c.args.layout.now (d.content c.args.disk.now) c.in_err-found.field-0.0 c.in_err-found.ensures.cause)
 
 pub returns-in_err-points-clause-cause : goal.returns-in_err-points-clause-cause
@@ -50,7 +50,7 @@ returns-in_err-points-clause-cause g c =
     let found = c.in_ok-found.found in
     let error = c.in_err-points.field-0.0 in
     let later = Rose (d.faults c.replay.new.disk) (d.faults c.check_entries.new.disk) in
-    handed_on c.from_residual-in_err-points.result error _ c.from_residual-in_err-points.ensures.1
+    err-holds c.from_residual-in_err-points.result error _ c.from_residual-in_err-points.ensures.1
     (entries-cause later (Rose (d.faults c.args.disk.now) (d.faults c.check_entries.new.disk)) d.told c.args.layout.now (d.content c.args.disk.now) found.jobs.tables.desk found.place error
     (rose_before (d.faults c.args.disk.now) (d.faults c.replay.new.disk) (d.faults c.check_entries.new.disk) c.in_ok-found.ensures.faults) c.in_ok-found.ensures.replayed
     (subst (λ (image : List ℕ). EntriesCause later d.told (bad_entry c.args.layout.now found.jobs.tables.desk image) error) c.in_ok-found.ensures.only_reads.same c.in_err-points.ensures.cause))

@@ -1,15 +1,16 @@
 use Rattle.std.proofs.Common.{subst, sym}
+use Rattle.ckr_base.proofs.Results.{err-holds}
 use Rattle.ckr_desk_turn.specs.Queue.{AreNumbered}
 use Rattle.ckr_outside.specs.Disk.{part}
 use Rattle.ckr_points.specs.Rows.{TablesModel}
 use Rattle.ckr_outside.specs.Faults.{Rose}
 use Rattle.ckr_journal.specs.Events.{GoesOn}
-use Rattle.ckr_desk.proofs.Openings.Replay.{gone_on, not_followed, numbered-replayed, book_inside, replay_cause, handed_on, event_read}
+use Rattle.ckr_desk.proofs.Openings.Replay.{gone_on, not_followed, numbered-replayed, book_inside, replay_cause, event_read}
 use Rattle.ckr_desk.proofs.opening.replay_one.Goals as goal
 
 pub returns-in_err-event_at-clause-cause : goal.returns-in_err-event_at-clause-cause
 returns-in_err-event_at-clause-cause g c =
-    handed_on c.from_residual.result c.in_err-event_at.field-0.0 _ c.from_residual.ensures.1
+    err-holds c.from_residual.result c.in_err-event_at.field-0.0 _ c.from_residual.ensures.1
     (replay_cause (Rose (g.D.Disk.faults c.args.disk.now) (g.D.Disk.faults c.event_at.new.disk)) g.D.Disk.told c.args.layout.now
     (part 512 c.args.layout.now.book (g.D.Disk.content c.args.disk.now)) c.args.found.now.jobs.tables.desk c.args.found.now.place c.in_err-event_at.field-0.0 c.in_err-event_at.ensures.cause)
 

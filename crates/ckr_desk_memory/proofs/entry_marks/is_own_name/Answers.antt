@@ -1,17 +1,12 @@
-use Rattle.std.proofs.Common.{◌≡◌, ◌<◌, ◌+◌, ◌-◌, ◌||◌, ℕ, suc, pred, drop, ap, sym, ◌∙◌, subst, arith}
+use Rattle.std.proofs.Common.{◌≡◌, ◌<◌, ◌-◌, ◌||◌, suc, pred, drop, ap, sym, ◌∙◌, subst, arith}
 use Rattle.std.proofs.lemmas.List.{drop_all}
+use Rattle.ckr_base.proofs.Numbers.{plus-minus, suc-minus}
 use Rattle.ckr_meaning.specs.EffectiveJob.{is_among, names_of_steps, step_at}
 use Rattle.ckr_points_tables.specs.RunJobs.{effective, names_in}
 use Rattle.ckr_points_tables.proofs.OwnNames.{among-append}
 use Rattle.ckr_desk_memory.proofs.EntryPoints.{names-before}
 use Rattle.ckr_desk_memory.proofs.entry_marks.is_own_name.Goals as goal
 use Rattle.ckr_desk_memory.proofs.entry_marks.is_own_name.Goals.{After-has_name_at}
-
-first-back : (n : ℕ) → suc n - 1 ≡ n
-first-back n = omega arith
-
-next-back : (n : ℕ) → n + 1 - 1 ≡ n
-next-back n = omega arith
 
 -- the step of the number, and those behind it
 next-is : (c : After-has_name_at) → (let behind = c.args.behind.now in let job = effective behind.on.now.run behind.table.now.job in
@@ -32,7 +27,7 @@ loop-step-init c =
     record {
       first = subst (λ n. 0 < n) (sym c.first_own-step.ensures) (omega arith);
       same = ap (λ n. is_among (names_of_steps job.root (drop (n - 1) job.steps)) c.args.name.now) c.first_own-step.ensures
-          ∙ ap (λ n. is_among (names_of_steps job.root (drop n job.steps)) c.args.name.now) (first-back (pred from));
+          ∙ ap (λ n. is_among (names_of_steps job.root (drop n job.steps)) c.args.name.now) (suc-minus (pred from));
     }
 
 pub loop-step-preserved : goal.loop-step-preserved
@@ -43,7 +38,7 @@ loop-step-preserved c =
     let rest = is_among (names_of_steps job.root (drop step job.steps)) c.args.name.now in
     record {
       first = omega arith;
-      same = ap (λ n. is_among (names_of_steps job.root (drop n job.steps)) c.args.name.now) (next-back step) ∙ ap (λ b. b || rest) (sym c.if-has_name_at.false) ∙ sym (next-is c.before) ∙ c.loop-step.invariant.same;
+      same = ap (λ n. is_among (names_of_steps job.root (drop n job.steps)) c.args.name.now) (plus-minus step) ∙ ap (λ b. b || rest) (sym c.if-has_name_at.false) ∙ sym (next-is c.before) ∙ c.loop-step.invariant.same;
     }
 
 pub returns-then-has_name_at : goal.returns-then-has_name_at

@@ -1,5 +1,6 @@
-use Rattle.std.proofs.Common.{◌≡◌, ℕ, ◌≤◌, ◌-◌, [], ◌++◌, ap, drop, refl, subst, sym, IsTrue, ◌∙◌, arith}
+use Rattle.std.proofs.Common.{◌≡◌, ◌-◌, [], ◌++◌, ap, drop, refl, subst, sym, IsTrue, ◌∙◌, arith}
 use Rattle.std.proofs.lemmas.List.{drop_all}
+use Rattle.ckr_base.proofs.Numbers.{zero-least}
 use Rattle.ckr_meaning.specs.EffectiveJob.{names_of_steps, step_at}
 use Rattle.ckr_points_tables.specs.MarkOrder.{are_in_order, marked, marked_onto}
 use Rattle.ckr_points_tables.specs.RunJobs.{effective, names_in}
@@ -36,13 +37,10 @@ loop-left-preserved c =
       order = c.in_ok-mark_step_at.ensures.order;
     }
 
-none_left : (n : ℕ) → n ≤ 0 → n ≡ 0
-none_left n none = omega arith
-
 pub returns-clause-items : goal.returns-clause-items
 returns-clause-items c =
     let behind = c.args.behind.now in
     let job = effective behind.on.now.run behind.table.now.job in
     onto-marks (mark_behind behind) (names_of_steps job.root job.steps) c.loop-left.items.items
     (c.loop-left.invariant.items
-    ∙ ap (λ i. marked_onto (mark_behind behind) (names_of_steps job.root (drop i job.steps)) []) (none_left c.loop-left.left c.loop-left-test.false))
+    ∙ ap (λ i. marked_onto (mark_behind behind) (names_of_steps job.root (drop i job.steps)) []) (zero-least c.loop-left.left c.loop-left-test.false))

@@ -1,6 +1,7 @@
-use Rattle.std.proofs.Common.{◌≡◌, ◌+◌, ◌-◌, ◌||◌, ℕ, drop, ap, sym, ◌∙◌, arith}
+use Rattle.std.proofs.Common.{◌≡◌, ◌-◌, ◌||◌, drop, ap, sym, ◌∙◌, arith}
 use Rattle.std.proofs.lemmas.List.{drop_all}
 use Rattle.std.proofs.lemmas.List.Folds.{list_any-append}
+use Rattle.ckr_base.proofs.Numbers.{plus-minus}
 use Rattle.ckr_desk_memory.proofs.EntryPoints.{names-before}
 use Rattle.ckr_desk_memory.specs.Model.RunJobs.{effective, names_in}
 use Rattle.ckr_library.specs.NameMaps.{same_name}
@@ -9,9 +10,6 @@ use Rattle.ckr_desk_refines.specs.Holders.{as_submitted}
 use Rattle.ckr_desk_refines.proofs.Listing.HeldNames.{submitted-few}
 use Rattle.ckr_desk_refines.proofs.holders.has_name_in_steps.Goals as goal
 use Rattle.ckr_desk_refines.proofs.holders.has_name_in_steps.Goals.{After-has_name_at}
-
-next-back : (n : ℕ) → n + 1 - 1 ≡ n
-next-back n = omega arith
 
 -- the step of the number, and those behind it
 next-is : (c : After-has_name_at) → (let job = as_submitted c.args.job.now.deck (effective c.args.run c.args.job.now) in
@@ -30,7 +28,7 @@ loop-number-preserved c =
     let rest = is_among (names_of_steps job.root (drop number job.steps)) c.args.name.now in
     record {
       first = omega arith;
-      same = ap (λ n. is_among (names_of_steps job.root (drop n job.steps)) c.args.name.now) (next-back number) ∙ ap (λ b. b || rest) (sym c.if-has_name_at.false) ∙ sym (next-is c.before) ∙ c.loop-number.invariant.same;
+      same = ap (λ n. is_among (names_of_steps job.root (drop n job.steps)) c.args.name.now) (plus-minus number) ∙ ap (λ b. b || rest) (sym c.if-has_name_at.false) ∙ sym (next-is c.before) ∙ c.loop-number.invariant.same;
     }
 
 pub returns-then-has_name_at : goal.returns-then-has_name_at

@@ -5,7 +5,7 @@ use Rattle.std.specs.Prelude.{◌==◌, slice_get}
 use Rattle.std.specs.Option.{option_map, option_map_or}
 use Rattle.std.proofs.lemmas.Bool.{false≢true}
 use Rattle.ckr_base.proofs.Bools.{bool-cases}
-use Rattle.ckr_base.proofs.Numbers.{equal-true, number-cases}
+use Rattle.ckr_base.proofs.Numbers.{equal-apart, equal-true, number-cases}
 use Rattle.ckr_base.proofs.Options.{option-cases, some-not-none}
 use Rattle.ckr_base.proofs.Sequences.{length-take, take-next}
 use Rattle.ckr_library.specs.declared.sets.Stamp.{Stamp}
@@ -27,7 +27,6 @@ use Rattle.ckr_points.specs.Soundness.{stamped_writes}
 use Rattle.ckr_points_invariant.specs.Invariant.{AreBegun, HasBegun, IsReached}
 use Rattle.ckr_points_invariant.specs.RunningSteps.{start_of}
 use Rattle.ckr_points_invariant.proofs.Holders.Rows.{step-all}
-use Rattle.ckr_points_invariant.proofs.Marks.Points.{differs}
 use Rattle.ckr_points_invariant.proofs.Stamps.Beginnings.{begun-as, disposed-from}
 use Rattle.ckr_points_invariant.proofs.Stamps.Steps.{IsOfStep, Outcome, opened-outcome, within-outcome}
 use Rattle.ckr_points_invariant.proofs.Steps.Walks.{at-before, at-opened, at-within, start_at-of}
@@ -152,7 +151,7 @@ module _ (office : Office) (leg : Leg) (number from : ℕ) (led : leg_of office 
           bool-cases (set.stamp.run == owned.owner)
           (λ its.
           let low : set.stamp.step < step = (seated name set e).early (equal-true set.stamp.run owned.owner its ∙ mine) in
-          ap (λ b. b && set.stamp.step == step) its ∙ differs set.stamp.step step (λ same. absurd (omega (arith, low, same))))
+          ap (λ b. b && set.stamp.step == step) its ∙ equal-apart set.stamp.step step (λ same. absurd (omega (arith, low, same))))
           (λ other. ap (λ b. b && set.stamp.step == step) other)
 
       formed_step : is_formed_step leg.job.root owned ≡ true

@@ -7,7 +7,7 @@ pub loop-place-preserved : goal.loop-place-preserved
 loop-place-preserved c =
     let next : suc c.loop-place.place ≡ c.loop-place.place + 1 = omega arith in
     subst (λ count. AreEnded count c.args.lines.now) next
-    (ended-next c.loop-place.place c.args.lines.now _ c.loop-place-test.true (sym c.has_ended.ensures ∙ c.if-not-has_ended.false) c.loop-place.invariant)
+    (ended-next c.loop-place.place c.args.lines.now _ c.loop-place-test.true (sym c.is_over.ensures ∙ c.if-not-is_over.false) c.loop-place.invariant)
 
 pub returns : goal.returns
 returns c =

@@ -1,5 +1,6 @@
 use Rattle.std.proofs.Common.{◌≡◌, ℕ, ◌<◌, ◌≤◌, ◌+◌, ◌-◌, [], ◌++◌, length-append, ap, sym, ◌∙◌, length, arith, drop, slice_get}
 use Rattle.std.proofs.lemmas.List.{drop_all}
+use Rattle.ckr_base.proofs.Numbers.{zero-least}
 use Rattle.ckr_meaning.specs.EffectiveJob.{names_of_job, names_of_steps}
 use Rattle.ckr_points_tables.specs.MarkOrder.{marked, marked_onto}
 use Rattle.ckr_points_tables.specs.RunJobs.{effective, names_in}
@@ -40,16 +41,13 @@ loop-left-preserved c =
       room = omega (arith, c.loop-left.invariant.room, c.mark_step_in.ensures.room, ap length next, length-append (names_in root (slice_get steps (left - 1))) (names_of_steps root (drop left steps)));
     }
 
-none_left : (n : ℕ) → n ≤ 0 → n ≡ 0
-none_left n none = omega arith
-
 pub returns-clause-marks : goal.returns-clause-marks
 returns-clause-marks c =
     let steps = (effective c.args.marking.now.run c.args.marking.now.job.now).steps in
     let mark = marking_mark c.args.marking.now in
     onto-marks mark (names_of_steps c.args.marking.now.job.now.root steps) c.loop-left.marks.items (
     c.loop-left.invariant.items
-    ∙ ap (λ i. marked_onto mark (names_of_steps c.args.marking.now.job.now.root (drop i steps)) []) (none_left c.loop-left.left c.loop-left-test.false))
+    ∙ ap (λ i. marked_onto mark (names_of_steps c.args.marking.now.job.now.root (drop i steps)) []) (zero-least c.loop-left.left c.loop-left-test.false))
 
 pub returns-clause-few : goal.returns-clause-few
 returns-clause-few c =

@@ -1,9 +1,10 @@
 use Rattle.std.proofs.Common.{◌≡◌, ◌≤◌, ◌+◌, ◌-◌, ◌∙◌, ℕ, List, [], refl, suc, length, take, drop, sym, ap, arith, append-nil}
 use Rattle.std.proofs.lemmas.List.{length-take-le}
+use Rattle.ckr_base.proofs.Results.{err-holds}
 use Rattle.ckr_cards.specs.Session.{SessionModel as Standing}
 use Rattle.ckr_service.specs.Service.{seen}
 use Rattle.ckr_service.specs.Flows.{Carries}
-use Rattle.ckr_service.proofs.Streams.Feeds.{begun, fed, fed_all, stopped_within, stopped_by_source, stopped_by_limit, handed_on, front_take, front_and_last}
+use Rattle.ckr_service.proofs.Streams.Feeds.{begun, fed, fed_all, stopped_within, stopped_by_source, stopped_by_limit, front_take, front_and_last}
 use Rattle.ckr_service.proofs.Calls.Stops.{goes_nowhere, goes_then}
 use Rattle.ckr_service.proofs.stream.feed_all.Goals as goal
 use Rattle.ckr_desk.specs.State.{disk_of}
@@ -45,7 +46,7 @@ returns-in_err-taken-clause-stop g c =
     let d = g.D.Disk in
     let i = c.loop-taken.invariant in
     let e = c.in_err-taken.ensures in
-    handed_on c.from_residual.result c.in_err-taken.field-0.0 _ c.from_residual.ensures.1
+    err-holds c.from_residual.result c.in_err-taken.field-0.0 _ c.from_residual.ensures.1
     (stopped_by_source d.content d.moment d.left_since d.size _ c.args.flow.now.session.clerk c.loop-taken.flow c.loop-taken.count _ _ _ _ _ _ _ _ _ _ _ _ _ i.feeding i.few e.kept i.goes i.source_later e.cause.0 e.cause.1)
 
 pub returns-in_err-feed-2-clause-stop : goal.returns-in_err-feed-2-clause-stop
@@ -55,7 +56,7 @@ returns-in_err-feed-2-clause-stop g c =
     let e = c.in_err-feed-2.ensures in
     let n = c.in_ok-taken.taken in
     let buffer = c.next_piece.new.buffer in
-    handed_on c.from_residual-in_err-feed-2.result c.in_err-feed-2.field-0.0 _ c.from_residual-in_err-feed-2.ensures.1
+    err-holds c.from_residual-in_err-feed-2.result c.in_err-feed-2.field-0.0 _ c.from_residual-in_err-feed-2.ensures.1
     (stopped_within d.content d.moment d.left_since d.size _ c.args.flow.now.session.clerk _ c.loop-taken.flow (disk_of c.feed-in-loop-taken.new.self.session.clerk.desk) c.loop-taken.count _ _ _ _ _ _ _ _ [] _ _ _ _ _ _ _ _ _
     i.feeding (few_taken c.loop-taken.count n buffer c.in_ok-taken.ensures.bound) c.in_ok-taken.ensures.given (sym (append-nil _)) i.goes
     (λ holds. e.err (i.trusted holds)) i.sink_later i.disk_later i.trusted e.cause)
@@ -91,7 +92,7 @@ returns-in_err-feed-clause-stop g c =
     let m = c.in_ok-taken.taken in
     let buffer = c.next_piece.new.buffer in
     let one_more : m ≡ suc (m - 1) = omega (arith, c.if-taken-eq0.false) in
-    handed_on c.from_residual-in_err-feed.result c.in_err-feed.field-0.0 _ c.from_residual-in_err-feed.ensures.1
+    err-holds c.from_residual-in_err-feed.result c.in_err-feed.field-0.0 _ c.from_residual-in_err-feed.ensures.1
     (stopped_within d.content d.moment d.left_since d.size _ c.args.flow.now.session.clerk _ c.loop-taken.flow (disk_of c.feed.new.self.session.clerk.desk) c.loop-taken.count _ _ _ _ _ _
     (take m buffer) (take (m - 1) buffer) (drop (m - 1) (take m buffer)) _ _ _ _ _ _ _ _ _ i.feeding (few_taken c.loop-taken.count m buffer c.in_ok-taken.ensures.bound) c.in_ok-taken.ensures.given
     (front_and_last m (m - 1) buffer one_more) i.goes (λ holds. e.err (i.trusted holds)) i.sink_later i.disk_later i.trusted e.cause)

@@ -1,5 +1,6 @@
 use Rattle.std.proofs.Common.{◌≡◌, ◌-◌, ◌+◌, ◌++◌, [], ℕ, List, Option, length, suc, true, false, None, refl, ap, sym, subst, ◌∙◌, append-nil, arith}
 use Rattle.std.specs.List.{flat_map}
+use Rattle.ckr_base.proofs.Results.{err-holds}
 use Rattle.ckr_desk.specs.Model.OpenImages.{event_records}
 use Rattle.ckr_desk.specs.State.{DeskView, disk_of, layout_of}
 use Rattle.ckr_service.specs.declared.stop.Halt.TheVariants as Halts
@@ -15,7 +16,6 @@ use Rattle.ckr_service.specs.Turns.{Adds, TurnHalt, Turns, TurnsHaltTelling}
 use Rattle.ckr_service.proofs.Service.Tallies.{counted_last, counted_more}
 use Rattle.ckr_service.proofs.Service.Turns.{adds_behind_text, no_more, turns_begun, turn_counted, turn_made, turn_rests, turns_counted, turns_front, turns_made, turns_halted}
 use Rattle.ckr_service.proofs.Calls.Stops.{came_there, goes_nowhere, goes_then, stopped_behind, stopped_here}
-use Rattle.ckr_service.proofs.Streams.Feeds.{handed_on}
 use Rattle.ckr_service.proofs.Tellings.{ends_told, front_told, told_here, told_more}
 use Rattle.ckr_service.proofs.turns.turned.Goals as goal
 
@@ -212,7 +212,7 @@ returns-in_err-reply-clause-halt g c holds =
     let from = telling c.args.lines.now (g.K.Sink.written c.args.sink.now) (g.K.Sink.faults c.args.sink.now) in
     let to = telling c.write.new.self (g.K.Sink.written c.write.new.sink) (g.K.Sink.faults c.write.new.sink) in
     let whole = turns_front layout c.args.turn c.args.count (c.args.count - c.loop.counter) _ _ _ _ _ _ _ turns.so in
-    handed_on c.from_residual.result halt _ c.from_residual.ensures.1
+    err-holds c.from_residual.result halt _ c.from_residual.ensures.1
     (stopped_behind d.content d.moment d.left_since d.size old c.loop.desk (disk_of c.one_turn.new.desk) (i.goes holds) (turns_events c.args.turn (length turns.so.made) s)
     (TurnHalt halt c.args.turn (attended_of d.content c.loop.desk)) (TurnsHaltTelling layout c.args.turn halt c.args.count s from to) turns.so.events
     (λ came kept why. record {
@@ -247,7 +247,7 @@ returns-in_err-waiting-clause-halt g c holds =
     let faults = g.K.Sink.faults c.write.new.sink in
     let from = telling c.args.lines.now (g.K.Sink.written c.args.sink.now) (g.K.Sink.faults c.args.sink.now) in
     let whole = turns_front layout c.args.turn c.args.count (c.args.count - c.loop.counter) _ _ _ _ _ _ _ turns.so in
-    handed_on c.from_residual-in_err-waiting.result Halts.Memory _ c.from_residual-in_err-waiting.ensures.1
+    err-holds c.from_residual-in_err-waiting.result Halts.Memory _ c.from_residual-in_err-waiting.ensures.1
     (stopped_here d.content d.moment d.left_since d.size old c.one_turn.new.desk (goes_then d.content d.moment d.left_since d.size old c.loop.desk c.one_turn.new.desk (i.goes holds) (o.goes here)) counted.0
     (TurnsHaltTelling layout c.args.turn Halts.Memory c.args.count s from (record { waits = c.add.new.out; failed = c.write.new.self.failed; written = written; faults = faults })) counted.1
     (record {
@@ -273,7 +273,7 @@ returns-in_err-finish-clause-halt g c holds =
     let faults = g.K.Sink.faults c.loop.sink in
     let from = telling c.args.lines.now (g.K.Sink.written c.args.sink.now) (g.K.Sink.faults c.args.sink.now) in
     let whole = turns_front layout c.args.turn c.args.count (c.args.count - c.loop.counter) _ _ _ _ _ _ _ turns.so in
-    handed_on c.from_residual-in_err-finish.result Halts.Memory _ c.from_residual-in_err-finish.ensures.1
+    err-holds c.from_residual-in_err-finish.result Halts.Memory _ c.from_residual-in_err-finish.ensures.1
     (stopped_here d.content d.moment d.left_since d.size old c.loop.desk (i.goes holds) (turns_events c.args.turn (length turns.so.made) s)
     (TurnsHaltTelling layout c.args.turn Halts.Memory c.args.count s from (record { waits = c.finish.new.out; failed = c.loop.lines.failed; written = written; faults = faults })) turns.so.events
     (record {

@@ -1,10 +1,10 @@
 use Rattle.std.proofs.Common.{[], ap, inl, inr, subst, sym}
+use Rattle.ckr_base.proofs.Results.{err-holds}
 use Rattle.ckr_outside.specs.Faults.{Rose}
 use Rattle.ckr_desk_store.specs.OpenImages.{event_records}
 use Rattle.ckr_desk_store.specs.State.{IsSound, StoreView}
 use Rattle.ckr_volumes.specs.declared.layout.Layout.{Layout}
 use Rattle.ckr_desk.proofs.Openings.Trust.{IsOpened, IsRead, IsReadAs, WritesAgain, desk-cause, kept-opening, opened-by, opens-again, opens-desk, trusted-opened}
-use Rattle.ckr_desk.proofs.Openings.Replay.{handed_on}
 use Rattle.ckr_desk.specs.FirstSync.{FromSync, IsLeft}
 use Rattle.ckr_desk.specs.Soundness.{AllSound, HasKept}
 use Rattle.ckr_desk.specs.State.{DeskView, opened_of}
@@ -13,7 +13,7 @@ use Rattle.ckr_desk.proofs.desk.Desk.open_on.Goals as goal
 pub returns-in_err-desk-clause-cause : goal.returns-in_err-desk-clause-cause
 returns-in_err-desk-clause-cause g c =
     let d = g.D.Disk in
-    handed_on c.from_residual.result c.in_err-desk.field-0.0 _ c.from_residual.ensures.1
+    err-holds c.from_residual.result c.in_err-desk.field-0.0 _ c.from_residual.ensures.1
     (desk-cause (Rose (d.faults c.args.disk) (d.faults c.in_err-desk.field-0.0.disk)) d.told (d.content c.args.disk) (d.size c.args.disk) c.in_err-desk.field-0.0.error c.in_err-desk.ensures.cause)
 
 pub returns-in-Ok-clause-opened : goal.returns-in-Ok-clause-opened
@@ -126,7 +126,7 @@ returns-in-Ok-clause-kept g c all =
 
 pub returns-in_err-desk-clause-left : goal.returns-in_err-desk-clause-left
 returns-in_err-desk-clause-left g c =
-    handed_on c.from_residual.result c.in_err-desk.field-0.0 _ c.from_residual.ensures.1 (inl c.in_err-desk.ensures.left)
+    err-holds c.from_residual.result c.in_err-desk.field-0.0 _ c.from_residual.ensures.1 (inl c.in_err-desk.ensures.left)
 
 pub returns-clause-left : goal.returns-clause-left
 returns-clause-left g c =

@@ -1,5 +1,6 @@
 use Rattle.std.proofs.Common.{Some, None, Err, ap, append-nil, refl, subst, sym, ◌∙◌}
 use Rattle.std.specs.Option.{option_copied, option_map}
+use Rattle.ckr_base.proofs.Results.{err-holds}
 use Rattle.ckr_book.specs.Book.{room_of}
 use Rattle.ckr_library.specs.declared.sets.DataSet.{DataSet}
 use Rattle.ckr_outside.specs.Disk.{EachSince}
@@ -7,7 +8,6 @@ use Rattle.ckr_desk_store.specs.State.{IsSound}
 use Rattle.ckr_volumes.specs.Records.{records_on}
 use Rattle.ckr_desk.proofs.Calls.Requests.{none-kept, reading-kept}
 use Rattle.ckr_desk.proofs.Calls.Records.{events-read, free-stands, not-stopped, of-desk, reading-fails-by, reading-full, reading-may-fail, reading-stays, same-layout, state-read, trusted-read}
-use Rattle.ckr_desk.proofs.Openings.Replay.{handed_on}
 use Rattle.ckr_desk.proofs.Units.Preparation.{err-is}
 use Rattle.ckr_desk.specs.CallOutcomes.{HasComeTo, KeepsDesk}
 use Rattle.ckr_desk.specs.Soundness.{state_of}
@@ -95,7 +95,7 @@ pub returns-in_err-read_all-in-Some-free_set-clause-full : goal.returns-in_err-r
 returns-in_err-read_all-in-Some-free_set-clause-full g c =
     let d = g.D.Disk in
     let error = c.in_err-read_all-in-Some-free_set.field-0.0 in
-    handed_on c.from_residual.result error _ c.from_residual.ensures.1
+    err-holds c.from_residual.result error _ c.from_residual.ensures.1
     (reading-full d.faults c.self.inside.store c.read_all.new.store (room_of c.args.self.now.store.book) error c.in_err-read_all-in-Some-free_set.ensures.cause)
 
 pub returns-in_err-read_all-in-Some-free_set-clause-keeps : goal.returns-in_err-read_all-in-Some-free_set-clause-keeps

@@ -1,4 +1,5 @@
 use Rattle.std.proofs.Common.{◌≡◌, ◌++◌, ◌∷◌, [], true, sym, ◌∙◌, subst, OnOk}
+use Rattle.ckr_base.proofs.Results.{err-holds}
 use Rattle.ckr_points.specs.Follows.{follows}
 use Rattle.ckr_points.specs.Rows.{TablesModel}
 use Rattle.ckr_events.specs.Event.{spelling}
@@ -12,7 +13,6 @@ use Rattle.ckr_desk_store.specs.OpenImages.{event_records}
 use Rattle.ckr_desk_store.specs.State.{IsSound, StoreView}
 use Rattle.ckr_desk.proofs.Calls.Requests.{if-err, on-ok}
 use Rattle.ckr_desk.proofs.Calls.Stops.{nothing-left, prepared-cause, prepared-gone, prepared-left, same-left, unready-cause}
-use Rattle.ckr_desk.proofs.Openings.Replay.{handed_on}
 use Rattle.ckr_desk.specs.declared.error.DeskError.TheVariants.{NoMemory}
 use Rattle.ckr_desk.specs.Calls.{HasGoneOn, IsLeftBy, NotEntered}
 use Rattle.ckr_desk.specs.Preparation.{IsReady}
@@ -38,7 +38,7 @@ returns-in_err-ready-clause-left g c is_open =
 pub returns-in_err-ready-clause-cause : goal.returns-in_err-ready-clause-cause
 returns-in_err-ready-clause-cause g c =
     let d = g.D.Disk in
-    handed_on c.from_residual.result c.in_err-ready.field-0.0 _ c.from_residual.ensures.1
+    err-holds c.from_residual.result c.in_err-ready.field-0.0 _ c.from_residual.ensures.1
     (unready-cause c.args.event.now c.args.deck d.faults c.args.self.now c.make_ready.new.self c.in_err-ready.field-0.0 c.in_err-ready.ensures.cause)
 
 pub returns-in_err-shared-clause-left : goal.returns-in_err-shared-clause-left
@@ -52,7 +52,7 @@ returns-in_err-shared-clause-left g c is_open =
 
 pub returns-in_err-shared-clause-cause : goal.returns-in_err-shared-clause-cause
 returns-in_err-shared-clause-cause g c =
-    handed_on c.from_residual-in_err-shared.result NoMemory _ c.from_residual-in_err-shared.ensures.1
+    err-holds c.from_residual-in_err-shared.result NoMemory _ c.from_residual-in_err-shared.ensures.1
     (record { jobs = c.make_ready.ensures.jobs; store = c.make_ready.ensures.store })
 
 pub enter-requires-clause-deck : goal.enter-requires-clause-deck

@@ -3,6 +3,7 @@ use Rattle.std.specs.List.{slice_split, All}
 use Rattle.std.proofs.lemmas.Grind.{common_steps}
 use Rattle.std.proofs.lemmas.List.Elements.{All-push}
 use Rattle.std.specs.Str.Lines.{strip_carriage_return}
+use Rattle.ckr_base.proofs.Results.{err-holds}
 use Rattle.ckr_desk.specs.State.{disk_of}
 use Rattle.ckr_cards.specs.Session.{first_session, handed_within as asked_within}
 use Rattle.ckr_service.specs.declared.flow.Flow.{Flow}
@@ -13,7 +14,6 @@ use Rattle.ckr_service.specs.Service.{Serves, StopsWithin, seen, staffed_of}
 use Rattle.ckr_service.specs.Sessions.{standing_of}
 use Rattle.ckr_service.specs.Stream.{is_line_end}
 use Rattle.ckr_service.proofs.Streams.Texts.{line_served_on, line_broken_at, nothing_broken}
-use Rattle.ckr_service.proofs.Streams.Feeds.{handed_on}
 use Rattle.ckr_service.proofs.Calls.Stops.{goes_nowhere, stopped_here, stopped_on}
 use Rattle.ckr_service.proofs.flow.Flow.byte.Goals as goal
 
@@ -51,7 +51,7 @@ returns-in_err-push-clause-err g c holds =
     let d = g.D.Disk in
     let f = c.args.self.now in
     let desk = f.session.clerk.desk in
-    handed_on c.from_residual.result Stops.Memory _ c.from_residual.ensures.1
+    err-holds c.from_residual.result Stops.Memory _ c.from_residual.ensures.1
     (stopped_here d.content d.moment d.left_since d.size desk desk (goes_nowhere d.content d.moment d.left_since d.size desk (c.layout-layout.ensures.kept c.requires.is_open holds)) []
     (Breaks d.content Stops.Memory (g.K.Sink.faults c.args.sink.now) (g.K.Sink.faults c.args.sink.now) f (c.args.byte ∷ []) (g.K.Sink.written c.args.sink.now) (g.K.Sink.written c.args.sink.now))
     (sym (append-nil _))

@@ -1,9 +1,9 @@
+use Rattle.ckr_base.proofs.Results.{err-holds}
 use Rattle.ckr_desk.specs.State.{disk_of}
 use Rattle.ckr_service.specs.Events.{events_told}
 use Rattle.ckr_service.specs.Lines.{telling}
 use Rattle.ckr_service.specs.Service.{HaltsTelling, seen, staffed_of}
 use Rattle.ckr_service.specs.Flows.{FinishBreaks, end_requests}
-use Rattle.ckr_service.proofs.Streams.Feeds.{handed_on}
 use Rattle.ckr_service.proofs.Streams.End.{finished, finish_broken}
 use Rattle.ckr_service.proofs.Calls.Texts.{halted, unwritten}
 use Rattle.ckr_service.proofs.Calls.Stops.{stopped_here, stopped_so}
@@ -30,7 +30,7 @@ returns-in_err-write-in-Ok-clause-err g c holds =
     let new = g.K.Sink.written c.write.new.sink in
     let serves = o.serves holds in
     let came = events_told (staffed_of d.content f.session.clerk) (end_requests f) in
-    handed_on c.from_residual.result stop _ c.from_residual.ensures.1
+    err-holds c.from_residual.result stop _ c.from_residual.ensures.1
     (stopped_here d.content d.moment d.left_since d.size f.session.clerk.desk c.end_requests.new.self.session.clerk.desk (o.goes holds) came (FinishBreaks d.content stop from.faults now f from.written new) serves.so.events
     (finish_broken d.content from.faults now f from.written new stop came came
     (unwritten (seen d.content f.session.clerk) (seen d.content c.end_requests.new.self.session.clerk) (end_requests f) from to stop now new serves c.new-lines.ensures.text o.sink_later e.cause.0 e.err)))

@@ -1,5 +1,6 @@
 use Rattle.std.proofs.Common.{List, ℕ, ap, subst, ◌∙◌}
 use Rattle.std.specs.Str.Lines.{strip_carriage_return}
+use Rattle.ckr_base.proofs.Results.{err-holds}
 use Rattle.ckr_cards.specs.Session.{handed_with, session_behind}
 use Rattle.ckr_desk.specs.State.{disk_of}
 use Rattle.ckr_service.specs.Events.{events_told}
@@ -9,7 +10,6 @@ use Rattle.ckr_service.specs.Service.{HaltsTelling, ServesTelling, StopsWithin, 
 use Rattle.ckr_service.specs.Sessions.{standing_of}
 use Rattle.ckr_service.proofs.Calls.Texts.{halted, serves_first, unwritten}
 use Rattle.ckr_service.proofs.Calls.Stops.{stopped_here, stopped_so}
-use Rattle.ckr_service.proofs.Streams.Feeds.{handed_on}
 use Rattle.ckr_service.proofs.flow.Flow.end_line.Goals as goal
 
 pub returns-in-Ok-clause-ok : goal.returns-in-Ok-clause-ok
@@ -41,7 +41,7 @@ returns-in_err-write-in-Ok-clause-err g c holds =
     let new = g.K.Sink.written c.write.new.sink in
     let line = c.without_return.ensures ∙ ap strip_carriage_return c.deref.ensures.value in
     let serves = subst (λ (l : List ℕ). ServesTelling (seen d.content f.session.clerk) (seen d.content c.line.new.self.clerk) (handed_with (standing_of f.session) l) from to) line (o.serves holds) in
-    handed_on c.from_residual.result stop _ c.from_residual.ensures.1
+    err-holds c.from_residual.result stop _ c.from_residual.ensures.1
     (stopped_here d.content d.moment d.left_since d.size f.session.clerk.desk c.line.new.self.clerk.desk (o.goes holds) (events_told (staffed_of d.content f.session.clerk) (line_requests f))
     (StopsWithin stop from.faults now (staffed_of d.content f.session.clerk) (line_requests f) from.written new) serves.so.events
     (unwritten (seen d.content f.session.clerk) (seen d.content c.line.new.self.clerk) (line_requests f) from to stop now new serves c.new-lines.ensures.text o.sink_later e.cause.0 e.err))

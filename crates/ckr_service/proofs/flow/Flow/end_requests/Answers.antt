@@ -1,5 +1,6 @@
 use Rattle.std.proofs.Common.{◌≡◌, ◌==◌, List, true, false, length, ap, subst, refl, arith, OnOk, IfErr}
 use Rattle.std.proofs.lemmas.Grind.{common_steps}
+use Rattle.ckr_base.proofs.Results.{err-holds}
 use Rattle.ckr_desk.specs.State.{disk_of}
 use Rattle.ckr_cards.specs.Session.{Handed, SessionModel as Standing, handed_with, session_behind}
 use Rattle.ckr_service.specs.Flows.{end_requests}
@@ -7,7 +8,6 @@ use Rattle.ckr_service.specs.Lines.{telling}
 use Rattle.ckr_service.specs.Service.{Serves, HaltsSo, HaltsTelling, ServesTelling, seen, staffed_of}
 use Rattle.ckr_service.specs.Stops.{Stopped}
 use Rattle.ckr_service.specs.Sessions.{standing_of}
-use Rattle.ckr_service.proofs.Streams.Feeds.{handed_on}
 use Rattle.ckr_service.proofs.Streams.End.{end_requests_of, end_requests_without}
 use Rattle.ckr_service.proofs.Service.Tellings.{serves_quiet_behind, waiting_with}
 use Rattle.ckr_service.proofs.Calls.Halts.{halts_before_them, halts_quiet_on, halts_then_on}
@@ -44,7 +44,7 @@ returns-in_err-line-clause-halt g c holds =
     let s = staffed_of d.content f.session.clerk in
     let from = telling c.args.lines.now (g.K.Sink.written c.args.sink.now) (g.K.Sink.faults c.args.sink.now) in
     let to = telling c.line.new.lines (g.K.Sink.written c.line.new.sink) (g.K.Sink.faults c.line.new.sink) in
-    handed_on c.from_residual.result halt _ c.from_residual.ensures.1
+    err-holds c.from_residual.result halt _ c.from_residual.ensures.1
     (subst (λ (ys : List Handed). Stopped d.content d.moment d.left_since d.size f.session.clerk.desk (disk_of c.line.new.self.clerk.desk) (HaltsTelling halt s ys from to)) whole
     (halts_before_them d.content d.moment d.left_since d.size halt f.session.clerk (disk_of c.line.new.self.clerk.desk) (handed_with (standing_of f.session) line) _ from to (c.in_err-line.ensures.halt holds)))
 

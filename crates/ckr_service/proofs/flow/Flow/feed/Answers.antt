@@ -1,8 +1,8 @@
 use Rattle.std.proofs.Common.{◌≡◌, ◌+◌, ◌<◌, ℕ, List, ◌∷◌, ◌++◌, [], length, take, drop, get_or, refl, sym, ap, subst, ◌∙◌, arith, take-append-drop}
 use Rattle.std.proofs.lemmas.List.{take_more}
+use Rattle.ckr_base.proofs.Results.{err-holds}
 use Rattle.ckr_service.proofs.Streams.Texts.{Carries-Breaks, Carries-trans, nothing_yet}
 use Rattle.ckr_service.specs.Flows.{Breaks, Carries}
-use Rattle.ckr_service.proofs.Streams.Feeds.{handed_on}
 use Rattle.ckr_service.proofs.Calls.Stops.{events_behind, goes_nowhere, goes_then, stopped_behind}
 use Rattle.ckr_service.proofs.flow.Flow.feed.Goals as goal
 use Rattle.ckr_desk.specs.State.{disk_of}
@@ -22,7 +22,7 @@ returns-in_err-byte-clause-err g c holds =
     let goes = l.goes holds in
     let written = g.K.Sink.written in
     let faults = g.K.Sink.faults in
-    handed_on c.from_residual.result stop _ c.from_residual.ensures.1
+    err-holds c.from_residual.result stop _ c.from_residual.ensures.1
     (stopped_behind d.content d.moment d.left_since d.size f.session.clerk.desk mid.session.clerk.desk (disk_of c.byte.new.self.session.clerk.desk) goes goes.came
     (Breaks d.content stop (faults c.loop-byte.sink) (faults c.byte.new.sink) mid (get_or piece i 0 ∷ []) (written c.loop-byte.sink) (written c.byte.new.sink))
     (Breaks d.content stop (faults c.args.sink.now) (faults c.byte.new.sink) f piece (written c.args.sink.now) (written c.byte.new.sink))
