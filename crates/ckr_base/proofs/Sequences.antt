@@ -50,6 +50,8 @@
 -- last-append            the last is what is put behind
 -- get-there              there is an item at each place inside
 -- get-some               the same, as a test
+-- get-append-last        what is put behind stands at the end
+-- get-append-front       elsewhere stands what stood there
 -- drop-get               what is behind a place begins with what stands there
 -- take-short             a front is no longer than the list
 -- head-same, tail-same   equal lists begin alike and go on alike
@@ -392,3 +394,13 @@ head-same one other xs ys is = cc
 
 pub tail-same : {A : Type 0} (one other : A) (xs ys : List A) → one ∷ xs ≡ other ∷ ys → xs ≡ ys
 tail-same one other xs ys is = cc
+
+pub get-append-last : {A : Type 0} (items : List A) (item : A) → slice_get (items ++ item ∷ []) (length items) ≡ Some item
+get-append-last [] item = refl
+get-append-last (first ∷ rest) item = get-append-last rest item
+
+pub get-append-front : {A : Type 0} (items : List A) (item : A) (place : ℕ) → place ≢ length items → slice_get (items ++ item ∷ []) place ≡ slice_get items place
+get-append-front [] item zero apart = absurd (apart refl)
+get-append-front [] item (suc place) apart = refl
+get-append-front (first ∷ rest) item zero apart = refl
+get-append-front (first ∷ rest) item (suc place) apart = get-append-front rest item place (λ e. apart (ap suc e))

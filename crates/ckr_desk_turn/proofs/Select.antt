@@ -1,6 +1,6 @@
 -- A desk whose run is submitted, selected, purged or released: the runs on initiators are as they were.
-use Rattle.std.proofs.Common.{◌≡◌, ◌≢◌, ◌≤◌, ◌*◌, ◌/◌, ℕ, zero, suc, true, false, not, List, [], ◌∷◌, ◌++◌, length, refl, ap, sym, ◌∙◌, Option, Some, None, Ok, arith}
-use Rattle.std.specs.Prelude.{◌==◌, Bool, if◌then◌else◌, slice_get, ◌&&◌, ◌||◌}
+use Rattle.std.proofs.Common.{◌≡◌, ◌≢◌, ◌≤◌, ◌*◌, ◌/◌, ℕ, zero, suc, true, false, not, List, [], ◌∷◌, length, refl, ap, sym, ◌∙◌, Option, Some, None, Ok, arith}
+use Rattle.std.specs.Prelude.{◌==◌, Bool, if◌then◌else◌, ◌&&◌, ◌||◌}
 use Rattle.std.specs.List.{AllByRecursion}
 use Rattle.std.specs.Option.{option_map_or, is_none, is_some}
 use Rattle.std.proofs.lemmas.Bool.{false≢true}
@@ -9,7 +9,7 @@ use Rattle.ckr_base.specs.declared.code.Code.{Code}
 use Rattle.ckr_base.proofs.Bools.{and-second}
 use Rattle.ckr_base.proofs.Numbers.{number-cases}
 use Rattle.ckr_base.proofs.Options.{some-not-none}
-use Rattle.ckr_base.proofs.Sequences.{each-implies}
+use Rattle.ckr_base.proofs.Sequences.{each-implies, get-append-last, get-append-front}
 use Rattle.ckr_events.specs.declared.event.Event.TheVariants.{Purged as PurgedEvent, Released as ReleasedEvent, Selected as SelectedEvent, Submitted as SubmittedEvent}
 use Rattle.ckr_jcl.specs.declared.deck.Job.{Job}
 use Rattle.ckr_jcl_decks.specs.Deck.{stored_deck}
@@ -187,21 +187,11 @@ released-keeps desk is job row at held =
 
 -- ---- submitted
 
-pub last_row : (runs : List RunRow) (row : RunRow) → slice_get (runs ++ row ∷ []) (length runs) ≡ Some row
-last_row [] row = refl
-last_row (first ∷ rest) row = last_row rest row
-
-pub front_row : (runs : List RunRow) (row : RunRow) (place : ℕ) → place ≢ length runs → slice_get (runs ++ row ∷ []) place ≡ slice_get runs place
-front_row [] row zero apart = absurd (apart refl)
-front_row [] row (suc place) apart = refl
-front_row (first ∷ rest) row zero apart = refl
-front_row (first ∷ rest) row (suc place) apart = front_row rest row place (λ e. apart (ap suc e))
-
 pub submitted-keeps : (desk : DeskModel) → IsDesk desk → (cards : List ℕ) (first : ℕ) (kept : List ℕ) (deck : Job) → suc (length desk.office.tables.runs) ≤ 9999999 → stored_deck cards ≡ Ok deck → IsDesk (submitted_desk (first ∷ kept) deck desk)
 submitted-keeps desk is cards first kept deck few accepted =
     entered desk is (office_after (SubmittedEvent job (first ∷ kept), Some deck) desk.office) job (queued_run job deck)
     (record {
-      mine = last_row desk.office.tables.runs (queued_run job deck);
+      mine = get-append-last desk.office.tables.runs (queued_run job deck);
       others = others;
       legs = λ other apart. refl;
       waits = λ row at on. some-not-none row (sym at ∙ slice_get_past desk.office.tables.runs (length desk.office.tables.runs) (omega arith));
@@ -219,7 +209,7 @@ submitted-keeps desk is cards first kept deck few accepted =
 
     others : (other : ℕ) → other ≢ suc (length desk.office.tables.runs) → run_of (after_submitted job deck desk.office.tables) other ≡ run_of desk.office.tables other
     others zero apart = refl
-    others (suc place) apart = front_row desk.office.tables.runs (queued_run job deck) place (λ e. apart (ap suc e))
+    others (suc place) apart = get-append-front desk.office.tables.runs (queued_run job deck) place (λ e. apart (ap suc e))
 
 -- the cards that its event keeps are at least one
 pub stored-keeps : (desk : DeskModel) → IsDesk desk → (cards : List ℕ) (deck : Job) → suc (length desk.office.tables.runs) ≤ 9999999 → 81 ≤ length cards → stored_deck cards ≡ Ok deck → IsDesk (submitted_desk (kept_of_stored cards) deck desk)

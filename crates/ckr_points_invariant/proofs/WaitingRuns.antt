@@ -1,13 +1,13 @@
 -- One more event of a run that holds nothing, or that is selected.
 use Rattle.std.proofs.Common.{◌≡◌, ◌≢◌, ℕ, zero, suc, Bool, true, false, ◌&&◌, not, List, [], ◌∷◌, ◌++◌, length, refl, ap, sym, ◌∙◌, subst, Option, Some, None, arith}
-use Rattle.std.specs.Prelude.{◌==◌, slice_get}
+use Rattle.std.specs.Prelude.{◌==◌}
 use Rattle.std.specs.Option.{is_none, is_some, option_map_or}
 use Rattle.std.proofs.lemmas.Bool.{false≢true}
 use Rattle.std.proofs.lemmas.Option.{slice_get_past}
 use Rattle.ckr_base.proofs.Bools.{and-first, and-second}
 use Rattle.ckr_base.proofs.Numbers.{equal-true}
 use Rattle.ckr_base.proofs.Options.{option-cases, some-not-none, some-one}
-use Rattle.ckr_base.proofs.Sequences.{find-holds}
+use Rattle.ckr_base.proofs.Sequences.{find-holds, get-append-last, get-append-front}
 use Rattle.ckr_events.specs.declared.event.Event.{Event}
 use Rattle.ckr_events.specs.declared.event.Event.TheVariants.{Denied, Purged, Selected, Submitted}
 use Rattle.ckr_jcl.specs.declared.deck.Job.{Job}
@@ -66,16 +66,6 @@ kept-none layout = record {
 
 -- ---- submitted
 
-get_last : (runs : List RunRow) (row : RunRow) → slice_get (runs ++ row ∷ []) (length runs) ≡ Some row
-get_last [] row = refl
-get_last (first ∷ rest) row = get_last rest row
-
-get_front : (runs : List RunRow) (row : RunRow) (place : ℕ) → place ≢ length runs → slice_get (runs ++ row ∷ []) place ≡ slice_get runs place
-get_front [] row zero apart = absurd (apart refl)
-get_front [] row (suc place) apart = refl
-get_front (first ∷ rest) row zero apart = refl
-get_front (first ∷ rest) row (suc place) apart = get_front rest row place (λ e. apart (ap suc e))
-
 -- a number that no run has has no leg
 pub no_leg : (layout : Layout) (office : Office) (number : ℕ) → IsAgreed layout office → run_of office.tables number ≡ None → leg_of office number ≡ None
 no_leg layout office number kept none =
@@ -86,7 +76,7 @@ no_leg layout office number kept none =
 
 submitted-waits : (layout : Layout) (office : Office) (deck : Job) → IsAgreed layout office → is_formed (plain_job (suc (length office.tables.runs)) deck) ≡ true → WaitsOn office (suc (length office.tables.runs)) (queued_run (suc (length office.tables.runs)) deck) (office.tables.runs ++ queued_run (suc (length office.tables.runs)) deck ∷ [])
 submitted-waits layout office deck kept formed = record {
-  here = get_last office.tables.runs _;
+  here = get-append-last office.tables.runs _;
   there = λ other apart. others other apart;
   same = refl;
   deck = λ row row_at. absurd (some-not-none row (sym row_at ∙ past));
@@ -104,7 +94,7 @@ submitted-waits layout office deck kept formed = record {
 
     others : (other : ℕ) → other ≢ suc (length office.tables.runs) → run_of (record { sets = office.tables.sets; runs = office.tables.runs ++ queued_run (suc (length office.tables.runs)) deck ∷ [] }) other ≡ run_of office.tables other
     others zero apart = refl
-    others (suc place) apart = get_front office.tables.runs _ place (λ e. apart (ap suc e))
+    others (suc place) apart = get-append-front office.tables.runs _ place (λ e. apart (ap suc e))
 
 pub kept-submitted : (layout : Layout) (office : Office) (job : ℕ) (cards : List ℕ) (deck : Option Job) → IsAgreed layout office → may_come layout office (Submitted job cards, deck) ≡ true → carries layout office (Submitted job cards) deck ≡ true → IsAgreed layout (office_after (Submitted job cards, deck) office)
 kept-submitted layout office job cards None kept may carried = absurd (false≢true carried)

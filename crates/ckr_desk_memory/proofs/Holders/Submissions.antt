@@ -7,7 +7,7 @@ use Rattle.std.proofs.lemmas.Option.{same_Some}
 use Rattle.ckr_base.proofs.Bools.{and-first}
 use Rattle.ckr_base.proofs.Numbers.{equal-true, nat_le-true, number-cases}
 use Rattle.ckr_base.proofs.Options.{is_some-true, some-not-none}
-use Rattle.ckr_base.proofs.Sequences.{each-append, get-inside}
+use Rattle.ckr_base.proofs.Sequences.{each-append, get-inside, get-append-last, get-append-front}
 use Rattle.ckr_events.specs.declared.event.Event.TheVariants.{Submitted}
 use Rattle.ckr_jcl.specs.declared.deck.Job.{Job}
 use Rattle.ckr_meaning.specs.EffectiveJob.{OwnedStep, is_among, plain_job, step_at}
@@ -29,29 +29,19 @@ use Rattle.ckr_desk_memory.proofs.Holders.Moves.{each-entry, own-kin}
 use Rattle.ckr_desk_memory.specs.Holders.{AreHolders, AreOfDeck, HasStartPassed, HasStepNames, IsNamedEntry, IsOwnEntry, KeepsOwnEntries, PassesOnOwn}
 use Rattle.ckr_desk_memory.specs.Invariant.{IsAcceptedDeck, IsAcceptedRow}
 
-last_row : (runs : List RunRow) (row : RunRow) → slice_get (runs ++ row ∷ []) (length runs) ≡ Some row
-last_row [] row = refl
-last_row (first ∷ rest) row = last_row rest row
-
-front_row : (runs : List RunRow) (row : RunRow) (place : ℕ) → place ≢ length runs → slice_get (runs ++ row ∷ []) place ≡ slice_get runs place
-front_row [] row zero apart = absurd (apart refl)
-front_row [] row (suc place) apart = refl
-front_row (first ∷ rest) row zero apart = refl
-front_row (first ∷ rest) row (suc place) apart = front_row rest row place (λ e. apart (ap suc e))
-
 -- a run that was there stays there
 pub row-more : (tables : TablesModel) (job : ℕ) (deck : Job) (number : ℕ) (row : RunRow) → run_of tables number ≡ Some row → run_of (after_submitted job deck tables) number ≡ Some row
 row-more tables job deck zero row at = at
 row-more tables job deck (suc place) row at =
-    front_row tables.runs (queued_run job deck) place (λ e. absurd (omega (arith, e, get-inside row tables.runs place at))) ∙ at
+    get-append-front tables.runs (queued_run job deck) place (λ e. absurd (omega (arith, e, get-inside row tables.runs place at))) ∙ at
 
 -- a row is that of the new run, or was there
 pub row-before : {A : Type 0} (tables : TablesModel) (job : ℕ) (deck : Job) (number : ℕ) (row : RunRow) → run_of (after_submitted job deck tables) number ≡ Some row → (queued_run job deck ≡ row → A) → (run_of tables number ≡ Some row → A) → A
 row-before tables job deck zero row at new old = absurd (some-not-none row (sym at))
 row-before tables job deck (suc place) row at new old =
     number-cases place (length tables.runs)
-    (λ here. new (same_Some (queued_run job deck) row (sym (last_row tables.runs (queued_run job deck)) ∙ ap (slice_get (tables.runs ++ queued_run job deck ∷ [])) (sym here) ∙ at)))
-    (λ apart. old (sym (front_row tables.runs (queued_run job deck) place apart) ∙ at))
+    (λ here. new (same_Some (queued_run job deck) row (sym (get-append-last tables.runs (queued_run job deck)) ∙ ap (slice_get (tables.runs ++ queued_run job deck ∷ [])) (sym here) ∙ at)))
+    (λ apart. old (sym (get-append-front tables.runs (queued_run job deck) place apart) ∙ at))
 
 -- a run that was submitted holds nothing
 module _ (tables : TablesModel) (deck : Job) (job : ℕ) (next : job ≡ suc (length tables.runs)) (orderly : is_orderly job deck ≡ true) (titled : HasStepNames (queued_run job deck)) (are : AreHolders tables) where
@@ -79,7 +69,7 @@ module _ (tables : TablesModel) (deck : Job) (job : ℕ) (next : job ≡ suc (le
       by number (Some row) at over = ap (λ (o : Option RunRow). option_map_or (λ (row : RunRow). is_ended row.state) o false) (row-more tables job deck number row at) ∙ over
 
   new-at : run_of more job ≡ Some new_run
-  new-at = ap (run_of more) next ∙ last_row tables.runs new_run
+  new-at = ap (run_of more) next ∙ get-append-last tables.runs new_run
 
   itself : IsKin more new_run job
   itself = own-kin more job new_run new-at refl

@@ -1,11 +1,12 @@
 -- The rows and the legs of the other runs are as they were behind an event of a run.
 use Rattle.std.proofs.Common.{◌≡◌, ◌≢◌, ℕ, zero, suc, Bool, true, false, List, [], ◌∷◌, ◌++◌, length, refl, ap, sym, ◌∙◌, subst, Option, Some, None, arith}
-use Rattle.std.specs.Prelude.{◌==◌, slice_get}
+use Rattle.std.specs.Prelude.{◌==◌}
 use Rattle.std.specs.Option.{option_map_or}
 use Rattle.std.proofs.lemmas.Bool.{false≢true}
 use Rattle.std.proofs.lemmas.Option.{same_Some, slice_get_past}
 use Rattle.ckr_base.specs.declared.code.Code.{Code}
 use Rattle.ckr_base.proofs.Options.{option-cases, some-not-none, some-one}
+use Rattle.ckr_base.proofs.Sequences.{get-append-front}
 use Rattle.arrayvec.specs.ArrayVec.{ArrayVec}
 use Rattle.ckr_events.specs.declared.event.Ending.{Ending}
 use Rattle.ckr_events.specs.declared.event.Ending.TheVariants.{Allocation, Coded, Completed}
@@ -281,12 +282,6 @@ released-run layout now job row kept at held = refl
 pub released-row : (layout : Layout) (now : Office) (job : ℕ) (row one : RunRow) → IsAgreed layout now → run_of now.tables job ≡ Some row → run_of (office_after (Released job, None) now).tables job ≡ Some one → record row { state = ReleasedRun } ≡ one
 released-row layout now job row one kept at there = stated-is layout now kept job ReleasedRun row at one there
 
-front_row : (runs : List RunRow) (row : RunRow) (place : ℕ) → place ≢ length runs → slice_get (runs ++ row ∷ []) place ≡ slice_get runs place
-front_row [] row zero apart = absurd (apart refl)
-front_row [] row (suc place) apart = refl
-front_row (first ∷ rest) row zero apart = refl
-front_row (first ∷ rest) row (suc place) apart = front_row rest row place (λ e. apart (ap suc e))
-
 pub submitted-enters : (now : Office) (cards : List ℕ) (deck : Job) → EntersOut now (office_after (Submitted (suc (length now.tables.runs)) cards, Some deck) now)
 submitted-enters now cards deck = record {
   enters = record {
@@ -302,4 +297,4 @@ submitted-enters now cards deck = record {
   where
     rows : (other : ℕ) → other ≢ suc (length now.tables.runs) → run_of (office_after (Submitted (suc (length now.tables.runs)) cards, Some deck) now).tables other ≡ run_of now.tables other
     rows zero apart = refl
-    rows (suc place) apart = front_row now.tables.runs (queued_run (suc (length now.tables.runs)) deck) place (λ e. apart (ap suc e))
+    rows (suc place) apart = get-append-front now.tables.runs (queued_run (suc (length now.tables.runs)) deck) place (λ e. apart (ap suc e))

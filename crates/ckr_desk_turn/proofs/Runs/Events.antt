@@ -7,6 +7,7 @@ use Rattle.arrayvec.specs.ArrayVec.{ArrayVec}
 use Rattle.ckr_base.specs.declared.code.Code.{Code}
 use Rattle.ckr_base.proofs.Bools.{and-first, and-second}
 use Rattle.ckr_base.proofs.Numbers.{equal-true}
+use Rattle.ckr_base.proofs.Sequences.{get-append-last, get-append-front}
 use Rattle.ckr_events.specs.declared.event.Event.TheVariants.{Cancelled as CancelledEvent, Checkpointed as CheckpointedEvent, Denied as DeniedEvent, Held as HeldEvent, Purged as PurgedEvent, Released as ReleasedEvent, Rewritten as RewrittenEvent, Selected as SelectedEvent, Started as StartedEvent, StepEnded as StepEndedEvent, Submitted as SubmittedEvent}
 use Rattle.ckr_events.specs.declared.event.Made.{Made}
 use Rattle.ckr_jcl.specs.declared.deck.Job.{Job}
@@ -42,7 +43,7 @@ use Rattle.ckr_desk_turn.proofs.AdmittedSteps.{queued-admitted}
 use Rattle.ckr_desk_turn.proofs.KeptDecks.{kept_read}
 use Rattle.ckr_desk_turn.proofs.OtherRuns.{between-steps}
 use Rattle.ckr_desk_turn.proofs.Runs.Rows.{HasRow, HasRows, Stands, has-row, runs-renewed, stands-more, stands-one}
-use Rattle.ckr_desk_turn.proofs.Select.{code_while, front_row, last_row, queued-on}
+use Rattle.ckr_desk_turn.proofs.Select.{code_while, queued-on}
 use Rattle.ckr_desk_turn.proofs.StepEnd.{by-changed}
 
 on-is : (state : RunState) → (state_number state == 2) ≡ true → state ≡ On
@@ -73,14 +74,14 @@ module _ (layout : Layout) (office : Office) (kept : IsAgreed layout office) (ha
       (runs-renewed office (record office { tables = after_submitted (suc (length office.tables.runs)) deck office.tables }) (suc (length office.tables.runs)) has
       (record {
         next = queued_run (suc (length office.tables.runs)) deck;
-        stands = record { mine = last_row office.tables.runs (queued_run (suc (length office.tables.runs)) deck); others = others };
+        stands = record { mine = get-append-last office.tables.runs (queued_run (suc (length office.tables.runs)) deck); others = others };
         has = record { in_state = refl; admitted = queued-admitted (stored_of_kept cards) (suc (length office.tables.runs)) deck (kept_read cards deck kept_so); stepped = refl };
       })
       has.spaced has.spaced_legs)
     where
       others : (other : ℕ) → other ≢ suc (length office.tables.runs) → run_of (after_submitted (suc (length office.tables.runs)) deck office.tables) other ≡ run_of office.tables other
       others zero apart = refl
-      others (suc place) apart = front_row office.tables.runs (queued_run (suc (length office.tables.runs)) deck) place (λ e. apart (ap suc e))
+      others (suc place) apart = get-append-front office.tables.runs (queued_run (suc (length office.tables.runs)) deck) place (λ e. apart (ap suc e))
 
   pub selected-runs : (job initiator step : ℕ) (id : Option Name) (deck : Option Job) → may_come layout office (SelectedEvent job initiator 0 step id, deck) ≡ true → HasRows (office_after (SelectedEvent job initiator 0 step id, deck) office)
   selected-runs job initiator step id deck may =

@@ -1,6 +1,6 @@
 -- One more event of a run that comes, goes or ends leaves all runs ready to restart.
 use Rattle.std.proofs.Common.{◌≡◌, ◌≢◌, ℕ, zero, suc, true, not, ◌&&◌, ◌||◌, List, [], ◌∷◌, ◌++◌, length, refl, ap, sym, ◌∙◌, subst, Option, Some, None}
-use Rattle.std.specs.Prelude.{◌==◌, slice_get}
+use Rattle.std.specs.Prelude.{◌==◌}
 use Rattle.std.specs.Option.{is_some, option_map_or}
 use Rattle.std.proofs.lemmas.Bool.{false≢true}
 use Rattle.std.proofs.lemmas.Option.{same_Some}
@@ -9,6 +9,7 @@ use Rattle.ckr_base.specs.declared.code.Code.{Code}
 use Rattle.ckr_base.proofs.Bools.{and-first, and-second}
 use Rattle.ckr_base.proofs.Numbers.{equal-true}
 use Rattle.ckr_base.proofs.Options.{some-one}
+use Rattle.ckr_base.proofs.Sequences.{get-append-last, get-append-front}
 use Rattle.ckr_events.specs.declared.event.Event.TheVariants.{Cancelled, Denied, Ended, Purged, Released, Selected, Submitted}
 use Rattle.ckr_events.specs.declared.event.Ending.{Ending}
 use Rattle.ckr_events.specs.declared.event.Ending.TheVariants.{Allocation, Coded, Completed}
@@ -45,19 +46,9 @@ use Rattle.ckr_points_invariant.proofs.Readiness.Rows.{ready-cancelled, ready-mo
 
 -- ---- a run more
 
-pub get-last : (runs : List RunRow) (row : RunRow) → slice_get (runs ++ row ∷ []) (length runs) ≡ Some row
-get-last [] row = refl
-get-last (first ∷ rest) row = get-last rest row
-
-get-front : (runs : List RunRow) (row : RunRow) (place : ℕ) → place ≢ length runs → slice_get (runs ++ row ∷ []) place ≡ slice_get runs place
-get-front [] row zero apart = absurd (apart refl)
-get-front [] row (suc place) apart = refl
-get-front (first ∷ rest) row zero apart = refl
-get-front (first ∷ rest) row (suc place) apart = get-front rest row place (λ e. apart (ap suc e))
-
 pub more-others : (tables : TablesModel) (row : RunRow) (number : ℕ) → number ≢ suc (length tables.runs) → run_of (record { sets = tables.sets; runs = tables.runs ++ row ∷ [] }) number ≡ run_of tables number
 more-others tables row zero apart = refl
-more-others tables row (suc place) apart = get-front tables.runs row place (λ e. apart (ap suc e))
+more-others tables row (suc place) apart = get-append-front tables.runs row place (λ e. apart (ap suc e))
 
 pub held-holds : (row : RunRow) → is_in_state HeldRun row ≡ true → is_holder row.state ≡ true
 held-holds row e = by row.state e
@@ -84,10 +75,10 @@ module _ (layout : Layout) (now : Office) (kept : IsAgreed layout now) (pointed 
         others = λ other differs. more-others now.tables (queued_run (suc (length now.tables.runs)) deck) other differs;
         sets = λ name apart. refl;
         own = λ row leg there.
-            let is : queued_run (suc (length now.tables.runs)) deck ≡ row = same_Some (queued_run (suc (length now.tables.runs)) deck) row (sym (get-last now.tables.runs (queued_run (suc (length now.tables.runs)) deck)) ∙ there.row_at) in
+            let is : queued_run (suc (length now.tables.runs)) deck ≡ row = same_Some (queued_run (suc (length now.tables.runs)) deck) row (sym (get-append-last now.tables.runs (queued_run (suc (length now.tables.runs)) deck)) ∙ there.row_at) in
             absurd (false≢true (ap (λ (its : RunRow). is_holder its.state) is ∙ there.holds));
         waits = λ row e queued.
-            let is : queued_run (suc (length now.tables.runs)) deck ≡ row = same_Some (queued_run (suc (length now.tables.runs)) deck) row (sym (get-last now.tables.runs (queued_run (suc (length now.tables.runs)) deck)) ∙ e) in
+            let is : queued_run (suc (length now.tables.runs)) deck ≡ row = same_Some (queued_run (suc (length now.tables.runs)) deck) row (sym (get-append-last now.tables.runs (queued_run (suc (length now.tables.runs)) deck)) ∙ e) in
             ap (λ (its : RunRow). its.in_effect) (sym is);
       }))
 

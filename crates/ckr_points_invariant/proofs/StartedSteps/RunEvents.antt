@@ -9,6 +9,7 @@ use Rattle.ckr_base.specs.declared.code.Code.{Code}
 use Rattle.ckr_base.proofs.Bools.{and-first, and-second}
 use Rattle.ckr_base.proofs.Numbers.{equal-true}
 use Rattle.ckr_base.proofs.Options.{some-not-none}
+use Rattle.ckr_base.proofs.Sequences.{get-append-last}
 use Rattle.ckr_events.specs.declared.event.Event.TheVariants.{Cancelled, Denied, Ended, Purged, Released, Selected, Submitted}
 use Rattle.ckr_events.specs.declared.event.Ending.{Ending}
 use Rattle.ckr_events.specs.declared.event.Ending.TheVariants.{Allocation, Coded, Completed}
@@ -33,7 +34,7 @@ use Rattle.ckr_points.specs.Tables.{after_cancelled, after_commit, after_disposi
 use Rattle.ckr_points_invariant.specs.Invariant.{AreOrderly, IsAgreed, IsHolder, step_now}
 use Rattle.ckr_points_invariant.specs.StartedSteps.{AreBegunSteps}
 use Rattle.ckr_points_invariant.proofs.Holders.Rows.{run-other, run-same}
-use Rattle.ckr_points_invariant.proofs.Readiness.RunEvents.{get-last, held-holds, more-others}
+use Rattle.ckr_points_invariant.proofs.Readiness.RunEvents.{held-holds, more-others}
 use Rattle.ckr_points_invariant.proofs.StartedSteps.Offices.{IsOnlyRow, begun-only}
 use Rattle.ckr_points_invariant.proofs.StartedSteps.Rows.{begun-chosen, begun-gone, begun-moved, begun-with}
 use Rattle.ckr_points_invariant.proofs.Steps.Events.{led-by, on-holds, running-holds, step-by}
@@ -50,7 +51,7 @@ abbrev pub submitted : Office → Job → Office
 submitted now deck = record now { tables = after_submitted (suc (length now.tables.runs)) deck now.tables }
 
 pub row-submitted : (now : Office) (deck : Job) (row : RunRow) → run_of (submitted now deck).tables (suc (length now.tables.runs)) ≡ Some row → queued_run (suc (length now.tables.runs)) deck ≡ row
-row-submitted now deck row e = same_Some (queued_run (suc (length now.tables.runs)) deck) row (sym (get-last now.tables.runs (queued_run (suc (length now.tables.runs)) deck)) ∙ e)
+row-submitted now deck row e = same_Some (queued_run (suc (length now.tables.runs)) deck) row (sym (get-append-last now.tables.runs (queued_run (suc (length now.tables.runs)) deck)) ∙ e)
 
 pub only-submitted : (now : Office) (deck : Job) → IsOnlyRow now (submitted now deck) (suc (length now.tables.runs))
 only-submitted now deck = record {
