@@ -5,10 +5,10 @@ use Rattle.ckr_base.proofs.Options.{some-not-none}
 use Rattle.ckr_desk_memory.specs.Invariant.{AreJobs, IsAcceptedRow, IsPlacedRow, IsRunnable}
 use Rattle.ckr_desk_memory.specs.Holders.{AreHolders}
 use Rattle.ckr_desk_memory.specs.OwnSets.{IsRunningOf}
-use Rattle.ckr_desk_memory.specs.OwnSteps.{AreLeft, AreSingle, HavePoints, HoldTheirOwn, IsLeft}
+use Rattle.ckr_desk_memory.specs.OwnSteps.{AreLeft, AreSingle, HavePoints, HoldTheirOwn}
 use Rattle.ckr_desk_memory.specs.View.{JobsView}
+use Rattle.ckr_desk_memory.proofs.Holders.LeftRuns.{left-alike}
 use Rattle.ckr_desk_turn.specs.Queue.{AreNumbered}
-use Rattle.ckr_desk_turn.specs.declared.failed_run.FailedRun.{FailedRun}
 use Rattle.ckr_points.specs.Rows.{TablesModel, no_tables}
 use Rattle.ckr_points.specs.Soundness.{AreLaidOut}
 use Rattle.ckr_points_tables.specs.View.{RoomyTables}
@@ -18,11 +18,6 @@ use Rattle.ckr_desk_store.specs.declared.error.StoreError.{StoreError}
 use Rattle.ckr_desk_store.specs.declared.error.StoreError.TheVariants.{DiskFault, BookFull, Stopped}
 use Rattle.ckr_volumes.specs.declared.layout.Layout.{Layout}
 use Rattle.ckr_desk.specs.State.{AreKept}
-
-left-same : (one two : JobsView) → two.tables.desk ≡ one.tables.desk → two.failed ≡ one.failed → AreLeft one → AreLeft two
-left-same one two desk failed left =
-    subst (λ (tables : TablesModel). AllByRecursion (λ (run : FailedRun). IsLeft tables run.run) two.failed) (sym desk)
-    (subst (AllByRecursion (λ (run : FailedRun). IsLeft one.tables.desk run.run)) (sym failed) left)
 
 pub jobs-stay : (layout later : Layout) (one two : JobsView) → later ≡ layout → two.tables.desk ≡ one.tables.desk → two.running ≡ one.running → AreJobs layout one → AreJobs later two
 jobs-stay layout later one two same desk running jobs =
@@ -44,7 +39,7 @@ kept-stay layout later one two same desk running failed points kept = record {
     single = subst AreSingle (sym running) kept.own.single;
     points = subst (HavePoints two.tables.desk) (sym points) (subst (λ (tables : TablesModel). HavePoints tables one.points) (sym desk) kept.own.points);
   };
-  left = left-same one two desk failed kept.left;
+  left = left-alike one two desk failed kept.left;
   numbered = subst (λ (tables : TablesModel). AreNumbered 1 tables.runs) (sym desk) kept.numbered;
 }
 
@@ -53,7 +48,7 @@ pub kept-moved : (layout : Layout) (one two : JobsView) → two.tables.desk ≡ 
 kept-moved layout one two desk failed are own kept = record {
   are = are;
   own = own;
-  left = left-same one two desk failed kept.left;
+  left = left-alike one two desk failed kept.left;
   numbered = subst (λ (tables : TablesModel). AreNumbered 1 tables.runs) (sym desk) kept.numbered;
 }
 

@@ -23,7 +23,7 @@ use Rattle.ckr_points.specs.Payload.{is_formed_step}
 use Rattle.ckr_points.specs.Rows.{RunRow, TablesModel}
 use Rattle.ckr_points.specs.Tables.{is_updates, name_with_role}
 use Rattle.ckr_points_invariant.proofs.Decks.Names.{steps-formed}
-use Rattle.ckr_points_invariant.proofs.Rewrite.Invariant.{updated-name}
+use Rattle.ckr_points_invariant.proofs.Rewrite.Invariant.{updated-name, update-is}
 use Rattle.ckr_points_library.specs.Holdings.{owned}
 use Rattle.ckr_points_tables.specs.Invariant.{CanContinue, MayContinue, is_submittable}
 use Rattle.ckr_points_tables.specs.Rewrite.{has_master, has_set, master_dd}
@@ -35,7 +35,6 @@ use Rattle.ckr_desk_turn.proofs.DeckLimits.{few_steps, steps_within}
 use Rattle.ckr_desk_turn.proofs.JobForm.{steps_once}
 use Rattle.ckr_desk_turn.proofs.OrderlyDecks.{deck-orderly}
 use Rattle.ckr_desk_turn.proofs.SyschkNames.{deck-syschk}
-use Rattle.ckr_desk_memory.proofs.Holders.Units.{update-is}
 use Rattle.ckr_desk_memory.proofs.Masters.{by-role}
 use Rattle.ckr_desk_memory.proofs.Starts.Steps.{row-among}
 use Rattle.ckr_desk_memory.specs.Invariant.{IsAcceptedRow}

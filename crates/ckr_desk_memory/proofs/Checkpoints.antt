@@ -28,6 +28,7 @@ use Rattle.ckr_volumes.specs.Layouts.{StandsIn}
 use Rattle.ckr_volumes.specs.declared.layout.Layout.{Layout}
 use Rattle.ckr_desk_turn.specs.Checkpoints.{is_in_range}
 use Rattle.ckr_desk_turn.specs.Queue.{AreNumbered}
+use Rattle.ckr_desk_turn.proofs.Queue.Events.{run_number}
 use Rattle.ckr_desk_memory.specs.declared.checkpoint.Checkpoint.{Checkpoint}
 use Rattle.ckr_desk_memory.specs.Checkpoints.{HasEntrySpace, IsCheckpointOf, event_in_set}
 use Rattle.ckr_desk_memory.specs.Entries.{entry_bytes, entry_end, entry_in_set, entry_to, fits_in, is_written, next_entry, next_id}
@@ -40,7 +41,6 @@ use Rattle.ckr_desk_memory.specs.Start.{AllFit}
 use Rattle.ckr_desk_memory.specs.View.{RunningStepView, length_in}
 use Rattle.ckr_desk_memory.proofs.EntrySizes.{entry-size}
 use Rattle.ckr_desk_memory.proofs.Holders.CheckSets.{check-among, check-named}
-use Rattle.ckr_desk_memory.proofs.Holders.Moves.{row-number}
 use Rattle.ckr_desk_memory.proofs.Holders.Names.{outputs-changed}
 use Rattle.ckr_desk_memory.proofs.Holders.OwnEvents.{own-length}
 use Rattle.ckr_desk_memory.proofs.Holders.OwnSteps.{others-first}
@@ -203,7 +203,7 @@ module _ (tables : TablesModel) (numbered : AreNumbered 1 tables.runs) (on : Run
   copies = by-its (λ row own. (name : Name) → is_among (changed_names row.job.root own) name ≡ true → AreCopies (entry_at tables.sets name) (set_of on.sets name)) is.changed
 
   number : its.row.number ≡ on.run
-  number = row-number tables on.run its.row numbered its.row_at
+  number = run_number tables on.run its.row numbered its.row_at
 
   abbrev names : List Name
   names = output_names its.row.job.root its.own

@@ -38,10 +38,11 @@ use Rattle.ckr_desk_turn.proofs.Deferred.EarlierRuns.{IsOwnStep, number-at, same
 use Rattle.ckr_desk_turn.proofs.Deferred.Permissions.{IsEntryPermitted, IsStartPermitted, IsWanted, counted, its-step, kept-id, numbered-above, permitted-continues}
 use Rattle.ckr_desk_turn.proofs.Deferred.Rules.{IsPassed, passed-so}
 use Rattle.ckr_desk_turn.proofs.NextEvents.BetweenSteps.{free-there, next_waits}
+use Rattle.ckr_desk_turn.proofs.Queue.Events.{run_number}
 use Rattle.ckr_volumes.specs.declared.layout.Layout.{Layout}
 use Rattle.ckr_desk_memory.proofs.FoundRuns.{found-run}
 use Rattle.ckr_desk_memory.proofs.Holders.KeptEntries.{kept-of}
-use Rattle.ckr_desk_memory.proofs.Holders.Moves.{row-accepted, row-number}
+use Rattle.ckr_desk_memory.proofs.Holders.Moves.{row-accepted}
 use Rattle.ckr_desk_memory.proofs.Starts.Steps.{row-among}
 use Rattle.ckr_desk_memory.specs.Holders.{AreHolders, IsNamedEntry, IsOwnEntry, steps_begun}
 use Rattle.ckr_desk_memory.specs.Invariant.{IsAcceptedRow, IsPlacedRow}
@@ -51,7 +52,7 @@ use Rattle.ckr_desk_memory.specs.OwnSteps.{PlanFollows}
 
 -- each run of the tables stands at its number
 each-at : (tables : TablesModel) → AreNumbered 1 tables.runs → AllByRecursion (λ (row : RunRow). run_of tables row.number ≡ Some row) tables.runs
-each-at tables numbered = each-by_place (λ (row : RunRow). run_of tables row.number ≡ Some row) tables.runs (λ place row at. ap (run_of tables) (row-number tables (suc place) row numbered at) ∙ at)
+each-at tables numbered = each-by_place (λ (row : RunRow). run_of tables row.number ≡ Some row) tables.runs (λ place row at. ap (run_of tables) (run_number tables (suc place) row numbered at) ∙ at)
 
 module _ (layout : Layout) (tables : TablesModel) (rows : AllByRecursion IsAcceptedRow tables.runs) (numbered : AreNumbered 1 tables.runs) (placed : AllByRecursion IsPlacedRow tables.runs) (are : AreHolders tables) (row : RunRow) where
   -- what is judged are tables alone
@@ -136,7 +137,7 @@ module _ (layout : Layout) (tables : TablesModel) (rows : AllByRecursion IsAccep
     own =
         is_some-true (run_of tables entry.point.run) (entry-found (λ set entry. is_some (run_of tables entry.point.run) ≡ true) (syschk_name row.deck) id entry (are.written (syschk_name row.deck)) found)
         (λ writer at.
-        let same : writer.number ≡ entry.point.run = row-number tables entry.point.run writer numbered at in
+        let same : writer.number ≡ entry.point.run = run_number tables entry.point.run writer numbered at in
         let its = entry-found (λ set entry. entry.point.run ≡ writer.number → IsOwnEntry writer set entry.point × IsNamedEntry writer entry) (syschk_name row.deck) id entry (are.entries entry.point.run writer at (syschk_name row.deck)) found (sym same) in
         let is : writer ≡ other = some-one writer other (run_of tables entry.point.run) at (ap (run_of tables) (sym same ∙ sym its.1.run) ∙ other_at) in
         subst (λ (other : RunRow). (entry.point.run ≡ other.number) × IsOwnEntry other (syschk_name row.deck) entry.point × IsNamedEntry other entry) is (sym same, its.0, its.1))

@@ -1,5 +1,5 @@
 -- The next entry of a running step is that of its job.
-use Rattle.std.proofs.Common.{◌≡◌, ◌+◌, ℕ, suc, Bool, true, false, ◌&&◌, ◌||◌, List, [], ◌∷◌, length, map, nat_le, option_and_then, refl, ap, sym, ◌∙◌, Option, None, Some}
+use Rattle.std.proofs.Common.{◌≡◌, ◌+◌, ℕ, suc, Bool, false, ◌&&◌, List, length, map, nat_le, option_and_then, refl, ap, sym, ◌∙◌, Option, None, Some}
 use Rattle.std.specs.Option.{is_none, option_map_or}
 use Rattle.std.specs.Prelude.{if◌then◌else◌}
 use Rattle.ckr_base.proofs.Numbers.{equal-from}
@@ -10,9 +10,8 @@ use Rattle.ckr_events.specs.declared.event.Event.{Event}
 use Rattle.ckr_events.specs.declared.event.Event.TheVariants.{Checkpointed}
 use Rattle.ckr_library.specs.Catalog.{records_of}
 use Rattle.ckr_points_tables.specs.Checkpoint.{checkpoint_name}
-use Rattle.ckr_library.specs.NameMaps.{Name, entry_at, same_name}
-use Rattle.ckr_library.proofs.Named.{name-itself}
-use Rattle.ckr_meaning.specs.EffectiveJob.{OwnedStep, is_among}
+use Rattle.ckr_library.specs.NameMaps.{Name, entry_at}
+use Rattle.ckr_meaning.specs.EffectiveJob.{OwnedStep}
 use Rattle.ckr_meaning.specs.StepRun.{StepStart}
 use Rattle.ckr_points_library.specs.Commit.{output_names}
 use Rattle.ckr_points.specs.Restart.{kept_at}
@@ -23,21 +22,12 @@ use Rattle.ckr_desk_turn.specs.Checkpoints.{check_set, entry_ending, entry_with,
 use Rattle.ckr_desk_turn.specs.Checkpoints as model
 use Rattle.ckr_desk_turn.specs.EntryStates.{at_checkpoint}
 use Rattle.ckr_desk_turn.specs.Units.{StepProgress}
+use Rattle.ckr_desk_turn.proofs.RunningSteps.{map-same}
 use Rattle.ckr_desk_memory.specs.Checkpoints.{event_in_set}
 use Rattle.ckr_desk_memory.specs.Entries.{entry_bytes, entry_end, entry_in_set, entry_to, fits_in, is_written, next_entry, next_id}
 use Rattle.ckr_desk_memory.specs.EntryMarks.{length_behind}
 use Rattle.ckr_desk_memory.specs.EntryModels.{HasCheckRecords, IsAsFar}
 use Rattle.ckr_desk_memory.specs.View.{RunningStepView}
-
-maps_same : (first second : Name → ℕ) (names : List Name) → ((name : Name) → is_among names name ≡ true → first name ≡ second name) → map first names ≡ map second names
-maps_same first second [] same = refl
-maps_same first second (name ∷ names) same =
-    ap (λ n. n ∷ map first names) (same name (ap (λ b. b || is_among names name) (name-itself name)))
-    ∙ ap (λ ns. second name ∷ ns) (maps_same first second names (λ other among. same other (later (same_name other name) (is_among names other) among)))
-  where
-    later : (here rest : Bool) → rest ≡ true → (here || rest) ≡ true
-    later true rest among = refl
-    later false rest among = among
 
 -- an entry by what it takes of its step
 abbrev entry_so : TablesModel → RunRow → OwnedStep → ℕ → ℕ → ℕ → ℕ → State → List ℕ → Entry
@@ -47,7 +37,7 @@ entry_so tables row own number root taken writes state lengths =
 module _ (tables : TablesModel) (row : RunRow) (start : StepStart) (on : RunningStepView) (progress : StepProgress) (most : ℕ) (far : IsAsFar tables row start on progress) where
   lengths_same : map (length_behind (check_set start) most on.sets.sets) (output_names start.root start.owned) ≡ lengths_with tables.sets start progress.writes most
   lengths_same =
-      maps_same (length_behind (check_set start) most on.sets.sets) _ (output_names start.root start.owned)
+      map-same (length_behind (check_set start) most on.sets.sets) _ (output_names start.root start.owned)
       (λ name among. ap (λ n. if is_check_set start name then most else n) (far.lengths name among))
 
   pub entry-same : entry_to (check_set start) most tables row start.owned on ≡ entry_ending most tables.sets row start progress

@@ -1,7 +1,6 @@
 -- How many bytes an entry has: as many wherever it ends.
 use Rattle.std.proofs.Common.{◌≡◌, ◌+◌, ℕ, suc, Bool, true, false, List, [], ◌∷◌, length, map, refl, ap, sym, ◌∙◌, Option, Some, None, length-append}
 use Rattle.std.specs.Prelude.{if◌then◌else◌}
-use Rattle.std.specs.Int.{w16, to_be_bytes}
 use Rattle.std.specs.Option.{is_some, option_map, option_map_or}
 use Rattle.std.proofs.lemmas.Bool.{false≢true}
 use Rattle.ckr_entry.specs.declared.point.Mark.{Mark}
@@ -9,7 +8,7 @@ use Rattle.ckr_entry.specs.declared.point.Present.{Present}
 use Rattle.ckr_entry.specs.Entry.{spelling}
 use Rattle.ckr_entry.specs.Numbers.{given_spell}
 use Rattle.ckr_entry.specs.Sets.{mark, marks, present}
-use Rattle.ckr_fields.specs.Fields.{ds_name, spell_each}
+use Rattle.ckr_fields.specs.Fields.{ds_name}
 use Rattle.ckr_library.specs.NameMaps.{Name, Named, entry_at, with_entry}
 use Rattle.ckr_library.proofs.Named.{viewed, viewed-with_entry}
 use Rattle.ckr_meaning.specs.EffectiveJob.{OwnedStep, is_among, names_of_job}
@@ -17,14 +16,11 @@ use Rattle.ckr_points.specs.Marks.{carried_marks, mark_at, mark_now, marked_unde
 use Rattle.ckr_points.specs.Rows.{RunRow, TableSet, TablesModel}
 use Rattle.ckr_points.specs.Tables.{committed}
 use Rattle.ckr_points_library.specs.Commit.{output_names}
-use Rattle.ckr_desk_turn.proofs.Checkpoints.Bytes.{spelling-size}
+use Rattle.ckr_desk_turn.proofs.Checkpoints.Bytes.{spelling-size, marks-size, size_of, sum_sizes}
 use Rattle.ckr_desk_memory.specs.Entries.{entry_bytes, entry_to}
 use Rattle.ckr_desk_memory.specs.EntryMarks.{length_behind}
 use Rattle.ckr_desk_memory.specs.View.{RunningStepView}
 use Rattle.ckr_desk_memory.proofs.Holders.Sets.{there-committed}
-
-abbrev size_of : Mark → ℕ
-size_of m = length ((mark None).spell m)
 
 -- what a mark says of a data set has as many bytes of each
 present-size : (one other : Present) (first second : Bool) → length (present.spell (record one { cataloged = first })) ≡ length (present.spell (record other { cataloged = second }))
@@ -45,20 +41,6 @@ mark-size one other name same =
     by None (Some table) e = absurd (false≢true e)
     by (Some table) None e = absurd (false≢true (sym e))
     by (Some table) (Some next) e = ap suc (present-size (present_of table) (present_of next) table.set.cataloged next.set.cataloged)
-
--- marks by their sizes
-abbrev sum_sizes : Named ℕ → ℕ
-sum_sizes [] = 0
-sum_sizes (first ∷ rest) = first.1 + sum_sizes rest
-
-each-sizes : (named : Named Mark) → length (spell_each (mark None).spell (map (λ entry. entry.1) named)) ≡ sum_sizes (viewed size_of named)
-each-sizes [] = refl
-each-sizes (first ∷ rest) = length-append ((mark None).spell first.1) (spell_each (mark None).spell (map (λ entry. entry.1) rest)) ∙ ap (λ n. size_of first.1 + n) (each-sizes rest)
-
-marks-size : (named : Named Mark) → length (marks.spell (map (λ entry. entry.1) named)) ≡ 2 + sum_sizes (viewed size_of named)
-marks-size named =
-    length-append (to_be_bytes w16 (length (map (λ entry. entry.1) named))) (spell_each (mark None).spell (map (λ entry. entry.1) named))
-    ∙ ap (λ n. 2 + n) (each-sizes named)
 
 under-sizes : (first second : Name → Mark) → ((name : Name) → size_of (first name) ≡ size_of (second name)) → (names : List Name) → viewed size_of (marked_under first names) ≡ viewed size_of (marked_under second names)
 under-sizes first second same [] = refl

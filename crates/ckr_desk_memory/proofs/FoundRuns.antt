@@ -21,6 +21,7 @@ use Rattle.ckr_points_tables.specs.View.{RunTableView, facts_in, facts_of, job_i
 use Rattle.ckr_desk_turn.specs.Codes.{CodePlaceModel, kept_reached, reached_by, running_reached}
 use Rattle.ckr_desk_turn.specs.Jobs.{TurnStep, as_stopped, running_in}
 use Rattle.ckr_desk_turn.specs.Queue.{AreNumbered}
+use Rattle.ckr_desk_turn.proofs.RunningSteps.{stopped-run, stopped-reached}
 use Rattle.ckr_points_tables.specs.Checkpoint.{checkpoint_name}
 use Rattle.ckr_desk_memory.specs.EventChanges.{check_name, check_name_in}
 use Rattle.ckr_desk_memory.specs.Plans.{row_for, IsKnown}
@@ -188,19 +189,6 @@ working_of tables on = record {
 
 pub working-is : (tables : TablesModel) (on : RunningStepView) → on.code ≡ None → running_of tables on ≡ working_of tables on
 working-is tables on uncoded = ap (λ (code : Option Code). as_stopped code (working_of tables on)) uncoded
-
--- a step that has stopped with a code is of its run, and its writes and its lengths stay
-pub stopped-run : (code : Option Code) (step : TurnStep) → (as_stopped code step).run ≡ step.run
-stopped-run None step = refl
-stopped-run (Some code) step = refl
-
-pub stopped-reached : (code : Option Code) (step : TurnStep) → running_reached (as_stopped code step) ≡ running_reached step
-stopped-reached None step = refl
-stopped-reached (Some code) step = refl
-
-pub stopped-code : (code : Option Code) (step : TurnStep) → step.code ≡ None → (as_stopped code step).code ≡ code
-stopped-code None step none = none
-stopped-code (Some code) step none = refl
 
 -- the running step as a turn sees it
 pub running-found : (jobs : JobsView) (run : ℕ) (found : Option RunningStepView) → found ≡ find (λ (on : RunningStepView). on.run == run) jobs.running → running_in (jobs_of jobs) run ≡ option_map (running_of jobs.tables.desk) found

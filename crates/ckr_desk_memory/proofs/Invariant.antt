@@ -124,7 +124,7 @@ in_step-holds row inside = and-first (is_holder row.state) (is_within (place_of 
 pub in_step-within : (row : RunRow) → is_in_step row ≡ true → is_within (place_of row) ≡ true
 in_step-within row inside = and-second (is_holder row.state) (is_within (place_of row)) inside
 
-running_within : (row : RunRow) → is_running row ≡ true → is_within (place_of row) ≡ true
+pub running_within : (row : RunRow) → is_running row ≡ true → is_within (place_of row) ≡ true
 running_within row runs = and-second (is_in_state On row) (is_within (place_of row)) runs
 
 placed_abnormal : (row : RunRow) (place : Place) (tables : TablesModel) → IsPlacedRow row → ArePlaced tables → ArePlaced (after_abnormal row place tables)

@@ -1,5 +1,5 @@
 -- The record of a rewrite is told under the name of what the step updates.
-use Rattle.std.proofs.Common.{◌≡◌, ℕ, Bool, true, false, ◌||◌, if◌then◌else◌, refl, ap, sym, ◌∙◌, subst, Some}
+use Rattle.std.proofs.Common.{◌≡◌, ℕ, true, false, ◌||◌, refl, ap, sym, ◌∙◌, subst, Some}
 use Rattle.std.specs.Prelude.{codes, find, option_and_then, slice_get}
 use Rattle.std.specs.Cmp.Lexicographic.{texts_ties}
 use Rattle.std.proofs.lemmas.Option.{same_Some}
@@ -8,8 +8,8 @@ use Rattle.ckr_base.proofs.Bools.{bool-cases}
 use Rattle.ckr_base.proofs.Sequences.{find-same}
 use Rattle.ckr_jcl.specs.declared.deck.Dd.{Dd}
 use Rattle.ckr_jcl.specs.declared.deck.Kind.TheVariants.{Update}
-use Rattle.ckr_jcl.specs.declared.deck.Role.TheVariants.{Reads, Writes, Updates, Checkpoints, Unused}
-use Rattle.ckr_jcl.specs.Programs.{is_checkpointed_by, is_read_by, is_updated_by, is_written_by, names_updated, role_of}
+use Rattle.ckr_jcl.specs.declared.deck.Role.TheVariants.{Updates}
+use Rattle.ckr_jcl.specs.Programs.{is_updated_by, names_updated, role_of}
 use Rattle.ckr_desk_turn.proofs.Rewrite.Masters.{role-updates}
 use Rattle.ckr_library.specs.NameMaps.{Name, same_name}
 use Rattle.ckr_library.proofs.Named.{name-equivalence, name-same}
@@ -18,13 +18,7 @@ use Rattle.ckr_meaning.specs.StepRun.{StepStart, output_name}
 use Rattle.ckr_points.specs.Tables.{is_updates}
 use Rattle.ckr_points.specs.Payload.{has_role, is_formed_step}
 use Rattle.ckr_points_invariant.proofs.Writes.Roles.{IsTarget, dd_role, formed-roles, target}
-
-not_updates : (read written updated checkpointed : Bool) → updated ≡ false → is_updates (if read then Reads else (if written then Writes else (if updated then Updates else (if checkpointed then Checkpoints else Unused)))) ≡ false
-not_updates true written updated checkpointed e = refl
-not_updates false true updated checkpointed e = refl
-not_updates false false true checkpointed e = e
-not_updates false false false true e = refl
-not_updates false false false false e = refl
+use Rattle.ckr_points_invariant.proofs.Rewrite.Invariant.{other_role}
 
 abbrev master : Name
 master = codes "MASTER"
@@ -33,13 +27,9 @@ other_updated : (dd name : Name) → slice_get (names_updated Update) 0 ≡ Some
 unfolding is_updated_by
 other_updated dd name named apart = ap (λ b. b || false) (texts_ties name master ∙ ap (same_name name) (same_Some master dd named) ∙ name-equivalence.symm name dd ∙ apart)
 
-unlike_role : (name : Name) → is_updated_by Update name ≡ false → is_updates (role_of Update name) ≡ false
-unfolding role_of
-unlike_role name e = not_updates (is_read_by Update name) (is_written_by Update name) (is_updated_by Update name) (is_checkpointed_by Update name) e
-
 -- a DD of another name than that of what UPDATE updates updates nothing
-other_role : (dd name : Name) → slice_get (names_updated Update) 0 ≡ Some dd → same_name dd name ≡ false → is_updates (role_of Update name) ≡ false
-other_role dd name named apart = unlike_role name (other_updated dd name named apart)
+role-apart : (dd name : Name) → slice_get (names_updated Update) 0 ≡ Some dd → same_name dd name ≡ false → is_updates (role_of Update name) ≡ false
+role-apart dd name named apart = other_role name (other_updated dd name named apart)
 
 -- the data set that the step updates, by the role of its DD
 pub by-role : (start : StepStart) (place : ℕ) (name : Name) → is_formed_step start.root start.owned ≡ true → start.owned.step.program ≡ Update → output_name start (InPlace place) ≡ Some name
@@ -55,6 +45,6 @@ by-role start place name formed program goes =
     ∙ ap (λ p. is_updates (role_of p dd.name)) program
     ∙ bool-cases (same_name t.1.dd_name dd.name)
     (λ same. ap (λ n. is_updates (role_of Update n)) (sym (name-same t.1.dd_name dd.name same)) ∙ ap is_updates role ∙ sym same)
-    (λ apart. other_role t.1.dd_name dd.name named apart ∙ sym apart))
+    (λ apart. role-apart t.1.dd_name dd.name named apart ∙ sym apart))
     ∙ t.1.found)
     ∙ t.1.has

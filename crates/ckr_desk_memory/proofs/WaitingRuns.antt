@@ -20,12 +20,13 @@ use Rattle.ckr_volumes.specs.declared.layout.Layout.{Layout}
 use Rattle.ckr_desk_turn.specs.declared.failed_run.FailedRun.{FailedRun}
 use Rattle.ckr_desk_turn.specs.Jobs.{TurnStep, is_asked, is_failed, running_in, system_failure, waiting_code}
 use Rattle.ckr_desk_turn.specs.Spelling.{IsCode}
+use Rattle.ckr_desk_turn.proofs.RunningSteps.{stopped-code}
 use Rattle.ckr_desk_memory.specs.Invariant.{IsPlacedRow, IsRunnable}
 use Rattle.ckr_desk_memory.specs.OwnSets.{IsRunningOf}
 use Rattle.ckr_desk_memory.specs.OwnSteps.{AreLeft, IsLeft, IsOther}
 use Rattle.ckr_desk_memory.specs.Plans.{IsAnyCode, IsKnown, next_step, row_for}
 use Rattle.ckr_desk_memory.specs.View.{JobsView, RunningStepView, jobs_of, running_of}
-use Rattle.ckr_desk_memory.proofs.FoundRuns.{find-is, known-by, running-found, stopped-code, working_of}
+use Rattle.ckr_desk_memory.proofs.FoundRuns.{find-is, known-by, running-found, working_of}
 use Rattle.ckr_desk_memory.proofs.Plans.{within-there}
 use Rattle.ckr_desk_memory.proofs.Starts.Steps.{row-among}
 

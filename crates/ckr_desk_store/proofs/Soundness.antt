@@ -1,25 +1,21 @@
 -- What stays true of the disk of an open desk, and what a stop leaves of it.
-use Rattle.std.proofs.Common.{◌≡◌, ◌≤◌, ◌+◌, ℕ, List, ◌∷◌, [], ◌++◌, take, drop, Option, None, Some, Ok, inr, sym, ◌∙◌, ap, subst, arith}
-use Rattle.ckr_outside.specs.Disk.{SameOutside, StemsFrom, EachSince, OnlyReads, ChangesWithin, part}
+use Rattle.std.proofs.Common.{◌≡◌, ◌≤◌, ◌+◌, ℕ, List, take, drop, None, inr, sym, ◌∙◌, ap, subst, arith}
+use Rattle.ckr_outside.specs.Disk.{SameOutside, StemsFrom, EachSince, ChangesWithin, part}
 use Rattle.std.proofs.lemmas.List.{take-take}
 use Rattle.ckr_outside.specs.Moments.{at_the_end, in_other_words}
 use Rattle.ckr_outside.specs.Ranges.{part_before, take-part}
 use Rattle.ckr_outside.specs.RangeCalls.{images_within}
 use Rattle.ckr_book.specs.Records.{records_from, end_from, starts_open}
-use Rattle.ckr_book.specs.Book.{OpenBook, IsInside, IsOpenOn, StandsOn, IsBeforeOrAfter, SamePlace, records_in, records_of, ends_closed}
+use Rattle.ckr_book.specs.Book.{IsInside, IsOpenOn, records_in, records_of, ends_closed}
 use Rattle.ckr_book.specs.OutsideChanges.{IsApart, stands_elsewhere}
 use Rattle.ckr_library.specs.Catalog.{Catalog}
 use Rattle.ckr_steps.specs.Writes.{ChangesKeeping, Keeps, StemsKeeping}
 use Rattle.ckr_volumes.specs.declared.layout.Layout.{Layout}
-use Rattle.ckr_volumes.specs.declared.layout.Volume.{Volume}
 use Rattle.ckr_volumes.specs.Header.{header_of, IsHeader}
-use Rattle.ckr_volumes.specs.Layouts.{front_of, volumes_end, disk_needed}
+use Rattle.ckr_volumes.specs.Layouts.{front_of, disk_needed}
 use Rattle.ckr_desk_store.specs.OpenImages.{event_records, Opens}
 use Rattle.ckr_desk_store.specs.State.{StoreView, IsSound}
-
-ends_behind : (at : ℕ) (volumes : List Volume) → at ≤ volumes_end at volumes
-ends_behind at [] = omega arith
-ends_behind at (volume ∷ rest) = omega (arith, ends_behind (at + volume.bytes) rest)
+use Rattle.ckr_journal.proofs.FreshDisks.{ends_behind}
 
 -- header and book lie within what the layout needs
 pub book_within : (layout : Layout) → 512 + layout.book ≤ disk_needed layout

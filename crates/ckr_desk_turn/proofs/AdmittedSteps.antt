@@ -15,7 +15,7 @@ use Rattle.ckr_meaning.specs.EffectiveJob.{Effective, OwnedStep, name_of, owned_
 use Rattle.ckr_meaning.specs.JobRun.{StepCodes, is_bypassed}
 use Rattle.ckr_points_decks.proofs.DeckLimits.{few_steps, steps_within}
 use Rattle.ckr_points_decks.specs.DeckLimits.{HasCheckParts, IsWithinLimits}
-use Rattle.ckr_points_invariant.proofs.Continuations.ReachedNames.OwnSteps.{owner-is}
+use Rattle.ckr_points_invariant.proofs.Select.Invariant.{owns_step}
 use Rattle.ckr_points_library.specs.AllocationSteps.{fits_named}
 use Rattle.ckr_points.specs.Restart.{spliced}
 use Rattle.ckr_points.specs.Rows.{RunRow}
@@ -30,17 +30,12 @@ bytes-same one other = (bytes_eq-Decides one other).0
 
 -- ---- the steps of a deck
 
--- the run owns each step of its deck
-owner-of : (run : ℕ) (deck : Job) (number : ℕ) (owned : OwnedStep) → step_at (plain_job run deck) number ≡ Some owned → owned.owner ≡ run
-owner-of run deck zero owned found = absurd (some-not-none owned (sym found))
-owner-of run deck (suc before) owned found = owner-is run deck deck.steps before owned found
-
 pub own-step : (cards : List ℕ) (run : ℕ) (deck : Job) → stored_deck cards ≡ Ok deck → (number : ℕ) (owned : OwnedStep) → step_at (plain_job run deck) number ≡ Some owned → IsAdmittedStep number owned
 own-step cards run deck accepted number owned found = record {
   cards = cards;
   deck = deck;
   accepted = accepted;
-  owned_so = ap (λ owner. step_at (plain_job owner deck) number) (owner-of run deck number owned found) ∙ found;
+  owned_so = ap (λ owner. step_at (plain_job owner deck) number) (owns_step run deck number owned found) ∙ found;
 }
 
 own-named : (run : ℕ) (deck : Job) (number : ℕ) (owned : OwnedStep) → step_at (plain_job run deck) number ≡ Some owned → HasStepName deck number owned.step.name

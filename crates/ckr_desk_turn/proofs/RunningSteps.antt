@@ -64,7 +64,7 @@ stopped-run None step = refl
 stopped-run (Some code) step = refl
 
 -- it has come as far
-stopped-reached : (code : Option Code) (step : TurnStep) → running_reached (as_stopped code step) ≡ running_reached step
+pub stopped-reached : (code : Option Code) (step : TurnStep) → running_reached (as_stopped code step) ≡ running_reached step
 stopped-reached None step = refl
 stopped-reached (Some code) step = refl
 

@@ -17,7 +17,7 @@ use Rattle.ckr_events.specs.declared.event.Made.{Made}
 use Rattle.ckr_events.specs.declared.event.Piece.{Piece}
 use Rattle.ckr_desk_turn.specs.Spelling.{IsSpelled, IsCode}
 
-lengths_long : (lengths : List ℕ) → length (length_list.spell lengths) ≡ 1 + 4 * length lengths
+pub lengths_long : (lengths : List ℕ) → length (length_list.spell lengths) ≡ 1 + 4 * length lengths
 lengths_long [] = refl
 lengths_long (first ∷ rest) = omega (arith, lengths_long rest)
 

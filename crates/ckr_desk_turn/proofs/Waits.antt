@@ -48,7 +48,7 @@ coded-all : (office : Office) (run : ℕ) (code : Code) (running : List DeskStep
 coded-all office run code [] going = tt
 coded-all office run code (first ∷ rest) going = (coded-going office run code first going.0, coded-all office run code rest going.1)
 
-coded-run : (run : ℕ) (code : Code) (on : DeskStep) → (coded_step run code on).run ≡ on.run
+pub coded-run : (run : ℕ) (code : Code) (on : DeskStep) → (coded_step run code on).run ≡ on.run
 coded-run run code on =
     by (on.run == run)
   where

@@ -41,7 +41,7 @@ on_disk layout size other is fits = record {
   fits = fits;
 }
 
-ends_behind : (at : ℕ) (volumes : List Volume) → at ≤ volumes_end at volumes
+pub ends_behind : (at : ℕ) (volumes : List Volume) → at ≤ volumes_end at volumes
 ends_behind at [] = omega arith
 ends_behind at (volume ∷ rest) = omega (arith, ends_behind (at + volume.bytes) rest)
 

@@ -2,40 +2,15 @@
 -- none-unnamed           nothing stands under it, by the first name
 -- none-first             nor where there is no name
 -- none-seen-unnamed      nor in the tables
-use Rattle.std.proofs.Common.{◌≡◌, ℕ, true, [], ◌∷◌, slice_get, refl, ap, sym, ◌∙◌, Option, Some, None}
-use Rattle.std.specs.FinMap.Entries.{below_all}
+use Rattle.std.proofs.Common.{◌≡◌, [], refl, ap, sym, ◌∙◌, Option, Some, None}
 use Rattle.std.specs.Option.{option_map}
-use Rattle.std.proofs.lemmas.Bool.{false≢true}
-use Rattle.std.proofs.lemmas.Option.{same_Some}
-use Rattle.ckr_base.proofs.Bools.{and-first, and-second}
 use Rattle.ckr_base.proofs.Options.{some-not-none}
-use Rattle.ckr_base.specs.Grammar.{is_ds_name}
 use Rattle.ckr_library.specs.Catalog.{Holding}
-use Rattle.ckr_library.specs.NameMaps.{Name, Named, are_named_in_order, entry_at, name_cmp, names_of}
+use Rattle.ckr_library.specs.NameMaps.{Named, entry_at}
 use Rattle.ckr_library.proofs.Named.{at-viewed}
 use Rattle.ckr_points.specs.Rows.{TableSet, holding_of}
 use Rattle.ckr_points_tables.specs.View.{seen_by}
-
--- nothing that stands behind a name is under the empty one
-below-unnamed : {X : Type 0} (x : ℕ) (rest : Name) (named : Named X) → below_all name_cmp (x ∷ rest) named ≡ true → entry_at named [] ≡ None
-below-unnamed x rest [] below = refl
-below-unnamed {X = X} x rest ((name, entry) ∷ named) below = by name below (below-unnamed x rest named (and-second _ _ below))
-  where
-    by : (name : Name) → below_all name_cmp (x ∷ rest) ((name, entry) ∷ named) ≡ true → entry_at named [] ≡ None → entry_at ((name, entry) ∷ named) [] ≡ None
-    by [] below more = absurd (false≢true below)
-    by (y ∷ name) below more = more
-
-under-first : {X : Type 0} (name : Name) (entry : X) (named : Named X) → is_ds_name name ≡ true → are_named_in_order ((name, entry) ∷ named) ≡ true → entry_at ((name, entry) ∷ named) [] ≡ None
-under-first [] entry named is order = absurd (false≢true is)
-under-first (x ∷ name) entry named is order = below-unnamed x name named (and-first _ _ order)
-
-pub none-unnamed : (named : Named Holding) (first : Name) → Some first ≡ slice_get (names_of named) 0 → is_ds_name first ≡ true → are_named_in_order named ≡ true → entry_at named [] ≡ None
-none-unnamed [] first at is order = refl
-none-unnamed ((name, holding) ∷ named) first at is order = under-first name holding named (ap is_ds_name (sym (same_Some first name at)) ∙ is) order
-
-pub none-first : (named : Named Holding) → None ≡ slice_get (names_of named) 0 → entry_at named [] ≡ None
-none-first [] at = refl
-none-first (first ∷ named) at = absurd (some-not-none _ (sym at))
+use Rattle.ckr_points_tables.proofs.UnnamedSets.{none-unnamed, none-first}
 
 pub none-seen-unnamed : (sets : Named Holding) (tables : Named TableSet) → sets ≡ seen_by holding_of tables → entry_at sets [] ≡ None → entry_at tables [] ≡ None
 none-seen-unnamed sets tables is none = by (entry_at tables []) (sym (at-viewed holding_of tables []) ∙ ap (λ all. entry_at all []) (sym is) ∙ none)

@@ -17,24 +17,17 @@ use Rattle.ckr_points.specs.Marks.{mark_at}
 use Rattle.ckr_points_tables.specs.RunJobs.{names_in}
 use Rattle.ckr_points_tables.specs.RunMarks.{mark_by}
 use Rattle.ckr_points_tables.proofs.RunJobs.{names-next}
-
-pub among-append : (first second : List Name) (name : Name) → is_among (first ++ second) name ≡ (is_among first name || is_among second name)
-among-append [] second name = refl
-among-append (other ∷ first) second name = ap (λ b. same_name name other || b) (among-append first second name) ∙ sym (join (same_name name other) (is_among first name) (is_among second name))
-  where
-    join : (a b c : Bool) → (a || b) || c ≡ (a || (b || c))
-    join true b c = refl
-    join false b c = refl
+use Rattle.ckr_points_tables.proofs.MadeNames.{among-both}
 
 -- a name is among itself and others
 pub among-itself : (name : Name) (names : List Name) → is_among (name ∷ names) name ≡ true
 among-itself name names = ap (λ b. b || is_among names name) (ap is_eq (tied_itself nat_list_cmp_total name))
 
 among-first : (first second : List Name) (name : Name) → is_among first name ≡ true → is_among (first ++ second) name ≡ true
-among-first first second name e = among-append first second name ∙ ap (λ b. b || is_among second name) e
+among-first first second name e = among-both first second name ∙ ap (λ b. b || is_among second name) e
 
 among-second : (first second : List Name) (name : Name) → is_among second name ≡ true → is_among (first ++ second) name ≡ true
-among-second first second name e = among-append first second name ∙ or_right (is_among first name) (is_among second name) e
+among-second first second name e = among-both first second name ∙ or_right (is_among first name) (is_among second name) e
 
 -- ---- of steps
 
@@ -59,7 +52,7 @@ names-behind root steps start place own name behind there e =
 pub among-next : (root : ℕ) (steps : List OwnedStep) (place next : ℕ) (name : Name) → place < length steps → next ≡ place + 1
     → is_among (names_of_steps root (drop place steps)) name ≡ (is_among (names_in root (slice_get steps place)) name || is_among (names_of_steps root (drop next steps)) name)
 among-next root steps place next name inside is =
-    ap (λ names. is_among names name) (names-next root steps place next inside is) ∙ among-append (names_in root (slice_get steps place)) (names_of_steps root (drop next steps)) name
+    ap (λ names. is_among names name) (names-next root steps place next inside is) ∙ among-both (names_in root (slice_get steps place)) (names_of_steps root (drop next steps)) name
 
 -- ---- of DDs
 

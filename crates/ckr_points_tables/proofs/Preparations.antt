@@ -1,5 +1,5 @@
 -- What a run is to be that continues another one.
-use Rattle.std.proofs.Common.{◌≡◌, ℕ, ◌==◌, Bool, true, false, cond, List, [], ◌∷◌, find, map, refl, ap, sym, ◌∙◌, Option, Some, None}
+use Rattle.std.proofs.Common.{◌≡◌, ℕ, true, false, refl, ap, sym, ◌∙◌, Option, Some, None}
 use Rattle.std.specs.Option.{is_some, option_and_then, option_map}
 use Rattle.std.proofs.lemmas.Bool.{false≢true}
 use Rattle.ckr_entry.specs.declared.point.Mark.{Mark}
@@ -10,18 +10,7 @@ use Rattle.ckr_points.specs.Marks.{point_at}
 use Rattle.ckr_points.specs.Rows.{StartPoint}
 use Rattle.ckr_points_tables.specs.RunJobs.{effective}
 use Rattle.ckr_points_tables.specs.Selection.{Entries, Resumption, continued_facts, prepared, resumed}
-use Rattle.ckr_points_tables.specs.View.{RunTableView, point_of}
-use Rattle.ckr_points_tables.specs.declared.run_table.StepPoint.{StepPoint}
-
--- a step point as it is seen
-pub point-seen : (points : List StepPoint) (step : ℕ) → option_map point_of (find (λ (point : StepPoint). point.step == step) points) ≡ point_at (map point_of points) step
-point-seen [] step = refl
-point-seen (point ∷ points) step = by (point.step == step) (point-seen points step)
-  where
-    by : (b : Bool) → option_map point_of (find (λ (one : StepPoint). one.step == step) points) ≡ point_at (map point_of points) step
-        → option_map point_of (cond b (Some point) (find (λ (one : StepPoint). one.step == step) points)) ≡ cond b (Some (point_of point)) (point_at (map point_of points) step)
-    by true more = refl
-    by false more = more
+use Rattle.ckr_points_tables.specs.View.{RunTableView}
 
 module _ (now : Name → Mark) (entries : Entries) (run number : ℕ) (deck : Job) (earlier : RunTableView) (step : ℕ) (id : Option Name) where
   abbrev at_point : StartPoint → Option RunTableView

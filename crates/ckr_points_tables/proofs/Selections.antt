@@ -21,10 +21,10 @@ use Rattle.ckr_points_tables.specs.RunMarks.{names_from}
 use Rattle.ckr_points_tables.specs.Selection.{carried_in, sets_resumed}
 use Rattle.ckr_points_tables.specs.View.{Writings, seen_by, table_in, table_of}
 use Rattle.ckr_points_tables.proofs.NamedViews.{at-viewed, viewed}
-use Rattle.ckr_points_tables.proofs.OwnNames.{among-append}
 use Rattle.ckr_points_tables.proofs.PutBack.{back-each, back-seen, gone-each, gone-seen}
 use Rattle.ckr_points_tables.proofs.RunJobs.{names-next}
-use Rattle.ckr_points_tables.proofs.SetViews.{marked_same, table_view}
+use Rattle.ckr_points_tables.proofs.SetViews.{marked_same, marks-seen}
+use Rattle.ckr_points_tables.proofs.MadeNames.{among-both}
 
 -- ---- catalog marks
 
@@ -118,15 +118,11 @@ module _ (Q : Holding → Type 0) (cuts : (most : ℕ) (holding : Holding) → Q
 
 -- ---- marks and lost names
 
--- a mark says nothing of entries
-present-seen : (writings : Writings) (sets : Named Holding) (name : Name) → mark_now (seen_by table_of sets) name ≡ mark_now (viewed (table_in writings) sets) name
-present-seen writings sets name = (table_view writings).marks sets name
-
 pub carried-seen : (writings : Writings) (sets : Named Holding) (run : ℕ) (job : JobView) (point : StartPoint) → carried_in (mark_now (seen_by table_of sets)) run job point ≡ carried_point (effective run job) (viewed (table_in writings) sets) point
 carried-seen writings sets run job point =
     ap (λ (all : Named Mark). record point { restarts = 0; marks = map (λ entry. entry.1) all })
     (marked_same (λ name. option_map_or (λ mark. mark) (mark_at point.marks name) (mark_now (seen_by table_of sets) name)) (λ name. option_map_or (λ mark. mark) (mark_at point.marks name) (mark_now (viewed (table_in writings) sets) name))
-    (λ name. ap (option_map_or (λ (mark : Mark). mark) (mark_at point.marks name)) (present-seen writings sets name)) (names_of_job (effective run job)))
+    (λ name. ap (option_map_or (λ (mark : Mark). mark) (mark_at point.marks name)) (marks-seen writings sets name)) (names_of_job (effective run job)))
 
 stands-seen : (writings : Writings) (sets : Named Holding) (marks : List Mark) (named : List Name) (name : Name) → still_exists marks named (seen_by table_of sets) name ≡ still_exists marks named (viewed (table_in writings) sets) name
 stands-seen writings sets marks named name = by (present_at marks name)
@@ -183,7 +179,7 @@ lost-kept marks named sets passed one is = lost-more marks named sets passed one
 
 pub among-flat : {A : Type 0} (of : A → List Name) (items : List A) (name : Name) → list_any (λ item. is_among (of item) name) items ≡ is_among (flat_map of items) name
 among-flat of [] name = refl
-among-flat of (item ∷ items) name = ap (λ b. is_among (of item) name || b) (among-flat of items name) ∙ sym (among-append (of item) (flat_map of items) name)
+among-flat of (item ∷ items) name = ap (λ b. is_among (of item) name || b) (among-flat of items name) ∙ sym (among-both (of item) (flat_map of items) name)
 
 -- a data set that stands as a mark has it
 pub stands-in : (sets : Named Holding) (name : Name) (present : Present)

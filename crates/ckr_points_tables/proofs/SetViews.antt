@@ -231,7 +231,7 @@ module _ {X Y : Type 0} (view : Name → X → Y) (first : Kit X) (second : Kit 
 -- ---- the views
 
 -- a mark looks at the data set alone
-marks-seen : (writings : Writings) (sets : Named Holding) (name : Name) → mark_now (seen_by table_of sets) name ≡ mark_now (viewed (table_in writings) sets) name
+pub marks-seen : (writings : Writings) (sets : Named Holding) (name : Name) → mark_now (seen_by table_of sets) name ≡ mark_now (viewed (table_in writings) sets) name
 marks-seen writings sets name =
     ap (λ found. record { name = name; present = option_map present_of found }) (plain-at table_of sets name)
     ∙ ap (λ present. record { name = name; present = present }) (by (entry_at sets name) ∙ ap (option_map present_of) (sym (at-viewed (table_in writings) sets name)))

@@ -10,7 +10,7 @@ use Rattle.ckr_library.specs.Catalog.{Holding}
 use Rattle.ckr_library.specs.NameMaps.{Name, Named, are_named_in_order, entry_at, name_cmp, names_of}
 
 -- nothing that stands behind a name is under the empty one
-below-unnamed : {X : Type 0} (x : ℕ) (rest : Name) (named : Named X) → below_all name_cmp (x ∷ rest) named ≡ true → entry_at named [] ≡ None
+pub below-unnamed : {X : Type 0} (x : ℕ) (rest : Name) (named : Named X) → below_all name_cmp (x ∷ rest) named ≡ true → entry_at named [] ≡ None
 below-unnamed x rest [] below = refl
 below-unnamed {X = X} x rest ((name, entry) ∷ named) below = by name below (below-unnamed x rest named (and-second _ _ below))
   where
@@ -18,7 +18,7 @@ below-unnamed {X = X} x rest ((name, entry) ∷ named) below = by name below (be
     by [] below more = absurd (false≢true below)
     by (y ∷ name) below more = more
 
-under-first : {X : Type 0} (name : Name) (entry : X) (named : Named X) → is_ds_name name ≡ true → are_named_in_order ((name, entry) ∷ named) ≡ true → entry_at ((name, entry) ∷ named) [] ≡ None
+pub under-first : {X : Type 0} (name : Name) (entry : X) (named : Named X) → is_ds_name name ≡ true → are_named_in_order ((name, entry) ∷ named) ≡ true → entry_at ((name, entry) ∷ named) [] ≡ None
 under-first [] entry named is order = absurd (false≢true is)
 under-first (x ∷ name) entry named is order = below-unnamed x name named (and-first _ _ order)
 

@@ -87,7 +87,7 @@ all_put start (write ∷ writes) library well =
 
 -- ---- the space behind writes
 
-there_grown : (files : Files) (old new : Catalog) (output : Output) → AreThere files old → new.sets ≡ grown_in (end_set files output) old.sets → AreThere files new
+pub there_grown : (files : Files) (old new : Catalog) (output : Output) → AreThere files old → new.sets ≡ grown_in (end_set files output) old.sets → AreThere files new
 there_grown files old new output there is = there_kept files old new (by (end_set files output) (end_there files old there output) is) there
   where
     by : (name : Option Name) → IsSetThere old name → new.sets ≡ grown_in name old.sets → (other : Name) → HasSet old other (λ _. Unit {0}) → HasSet new other (λ _. Unit {0})

@@ -190,7 +190,7 @@ closed_is parm (Matched state) heads open_yet = by (chosen (keys_of state.kind p
 same_code : (one other : ℕ) → Some (Finishes.Returned one) ≡ Some (Finishes.Returned other) → one ≡ other
 same_code one other e = cc
 
-not_returned : (code : Code) (rc : ℕ) → Some (Finishes.Abend code) ≡ Some (Finishes.Returned rc) → ⊥
+pub not_returned : (code : Code) (rc : ℕ) → Some (Finishes.Abend code) ≡ Some (Finishes.Returned rc) → ⊥
 not_returned code rc e = cc
 
 none_returned : (rc : ℕ) → None ≡ Some (Finishes.Returned rc) → ⊥

@@ -1,6 +1,5 @@
 -- Whether what is due at a count of records is served: nothing is at a new count, and then the checkpoint, and the cancel.
 use Rattle.std.proofs.Common.{◌≡◌, ℕ, Bool, true, false, List, Option, None, Some, cond, refl, ap, sym, ◌∙◌}
-use Rattle.ckr_base.specs.declared.code.Code.{Code}
 use Rattle.ckr_base.specs.declared.code.Code.TheVariants.{System, User}
 use Rattle.ckr_base.specs.declared.programs.Finish.{Finish}
 use Rattle.ckr_base.specs.declared.programs.Finish.TheVariants as Finishes
@@ -23,6 +22,7 @@ use Rattle.ckr_programs.specs.State as plain
 use Rattle.ckr_programs.specs.Steps as plain_steps
 use Rattle.ckr_programs.specs.declared.state.ProgState.{ProgState}
 use Rattle.ckr_steps.specs.Units.{AreServed, due_of, first_state, is_cancelled, is_checkpointed, served_of, state_for, state_of, unit_of}
+use Rattle.ckr_steps.proofs.NextUnits.{not_returned as abend-not}
 
 ended_not : (finish : Finish) → Some finish ≡ None → ⊥
 ended_not finish e = cc
@@ -57,9 +57,6 @@ unit-fresh parm (Matched state) heads goes = by (chosen (keys_of state.kind parm
 not_returned : (finish : Option Finish) (rc : ℕ) → finish ≡ None → finish ≡ Some (Finishes.Returned rc) → ⊥
 not_returned finish rc none e = ended_not (Finishes.Returned rc) (sym e ∙ none)
 
-abended_not : (code : Code) (rc : ℕ) → Some (Finishes.Abend code) ≡ Some (Finishes.Returned rc) → ⊥
-abended_not code rc e = cc
-
 -- the closing unit takes none
 pub unit-closed : (parm : Parm) (state : State) (heads : Heads) (rc : ℕ) → (unit_of parm state heads).finish ≡ Some (Finishes.Returned rc)
     → AreServed (is_checkpointed state) (is_cancelled state) (state_of parm state heads)
@@ -69,7 +66,7 @@ unit-closed parm (Plain state) heads rc ends = by heads.first ends
     by_take : (can : Bool) (taking stuck : UnitDone) (n : ProgState) → taking.finish ≡ None → stuck.finish ≡ Some (Finishes.Abend (System 199))
         → (cond can taking stuck).finish ≡ Some (Finishes.Returned rc) → AreServed state.checkpointed state.cancelled (Plain (cond can n state))
     by_take true taking stuck n none other e = absurd (not_returned taking.finish rc none e)
-    by_take false taking stuck n none other e = absurd (abended_not (System 199) rc (sym other ∙ e))
+    by_take false taking stuck n none other e = absurd (abend-not (System 199) rc (sym other ∙ e))
 
     by : (head : Option (List ℕ)) → (plain_steps.unit_of parm state head).finish ≡ Some (Finishes.Returned rc) → AreServed state.checkpointed state.cancelled (Plain (plain_steps.state_of parm state head))
     by None e = record { checkpoint = refl; cancel = refl }
@@ -79,7 +76,7 @@ unit-closed parm (Matched state) heads rc ends = by (chosen (keys_of state.kind 
     by_next : (is : Bool) (taking stuck : UnitDone) (n : MatchState) → taking.finish ≡ None → stuck.finish ≡ Some (Finishes.Abend (User 101))
         → (cond is taking stuck).finish ≡ Some (Finishes.Returned rc) → AreServed state.checkpointed state.cancelled (Matched (cond is n state))
     by_next true taking stuck n none other e = absurd (not_returned taking.finish rc none e)
-    by_next false taking stuck n none other e = absurd (abended_not (User 101) rc (sym other ∙ e))
+    by_next false taking stuck n none other e = absurd (abend-not (User 101) rc (sym other ∙ e))
 
     by : (next : Option Taken) → (matched_steps.unit_for parm state next).finish ≡ Some (Finishes.Returned rc) → AreServed state.checkpointed state.cancelled (Matched (matched_steps.state_behind parm state next))
     by None e = record { checkpoint = refl; cancel = refl }

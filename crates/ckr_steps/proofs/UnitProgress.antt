@@ -62,7 +62,7 @@ all_counted (write ∷ writes) all = by (is_behind write) (all_counted writes) a
     by true others all = ap (λ ws. write ∷ ws) (others all)
     by false others all = absurd (false≢true all)
 
-no_rewrite : (set : Option DataSet) (writes : List Write) → list_all is_behind writes ≡ true → rewrite_first set writes ≡ None
+pub no_rewrite : (set : Option DataSet) (writes : List Write) → list_all is_behind writes ≡ true → rewrite_first set writes ≡ None
 no_rewrite set [] all = refl
 no_rewrite set (write ∷ writes) all = by set write.output write.image all
   where

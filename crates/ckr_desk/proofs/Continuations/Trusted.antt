@@ -1,11 +1,12 @@
 -- A plan by which a run goes on at a checkpoint, on a trusted disk: the entry is read as the tables keep it, and its point stands for it behind the event.
-use Rattle.std.proofs.Common.{◌≡◌, ℕ, suc, Bool, true, false, IsTrue, List, [], ◌∷◌, find, refl, ap, sym, ◌∙◌, Option, Some, None, Ok, Err, cond}
+use Rattle.std.proofs.Common.{◌≡◌, ℕ, suc, Bool, true, IsTrue, List, [], ◌∷◌, find, refl, ap, sym, ◌∙◌, Option, Some, None, Ok, Err, cond}
 use Rattle.std.specs.Prelude.{option_and_then}
 use Rattle.std.specs.List.{AllByRecursion}
 use Rattle.std.specs.Cmp.Lexicographic.{pointwise}
 use Rattle.std.specs.Option.{option_eq, option_map, option_map_or}
 use Rattle.std.proofs.lemmas.Bool.{and_from}
 use Rattle.ckr_points_invariant.specs.EarlierRuns.{IsEntryOf, MayContinue}
+use Rattle.ckr_points_invariant.proofs.Continuations.Freshness.{mark-itself}
 use Rattle.ckr_base.proofs.Numbers.{equal-itself}
 use Rattle.ckr_base.proofs.Options.{some-one}
 use Rattle.ckr_entry.specs.Entry.{entry_in}
@@ -17,7 +18,6 @@ use Rattle.ckr_jcl.specs.declared.deck.Kind.{Kind}
 use Rattle.ckr_library.specs.Catalog.{ends_within}
 use Rattle.ckr_library.specs.NameMaps.{Name, entry_at}
 use Rattle.ckr_library.proofs.Named.{each-at, name-itself}
-use Rattle.ckr_points.specs.Marks.{same_mark}
 use Rattle.ckr_points.specs.Restart.{kept_at, syschk_name}
 use Rattle.ckr_meaning.specs.EffectiveJob.{OwnedStep, step_at}
 use Rattle.ckr_points.specs.Rows.{EntryPoint, KeptEntry, RunRow, TableSet, run_of, step_of_run}
@@ -44,10 +44,6 @@ use Rattle.ckr_desk.specs.Entries.{point_in}
 use Rattle.ckr_desk.specs.declared.continuation.Continuation.{Continuation}
 
 -- ---- what is compared is the same as itself
-
-mark-itself : (mark : Bool) → same_mark mark mark ≡ true
-mark-itself true = refl
-mark-itself false = refl
 
 present-itself : (one : Present) → same_present one one ≡ true
 present-itself one =

@@ -4,9 +4,10 @@ use Rattle.std.specs.Option.{option_map_or}
 use Rattle.ckr_base.proofs.Numbers.{nat_le-from, nat_le-true}
 use Rattle.ckr_base.proofs.Sequences.{find-holds}
 use Rattle.ckr_events.specs.declared.event.Event.{Event}
-use Rattle.ckr_events.specs.declared.event.Event.TheVariants.{Checkpointed, Submitted}
+use Rattle.ckr_events.specs.declared.event.Event.TheVariants.{Checkpointed}
 use Rattle.ckr_events.specs.Event.{spelling}
 use Rattle.ckr_desk_memory.specs.Replay.{deck_of}
+use Rattle.ckr_desk_memory.proofs.Replays.{replayed-some}
 use Rattle.ckr_desk_refines.proofs.Entries.Checkpoint.{has-taken}
 use Rattle.ckr_desk_refines.proofs.Entries.CheckSets.{sound-plain}
 use Rattle.ckr_desk_refines.proofs.Entries.Events.{has-next}
@@ -34,7 +35,7 @@ use Rattle.ckr_points_invariant.proofs.EventList.{office-more}
 use Rattle.ckr_points_invariant.specs.Invariant.{IsAgreed}
 use Rattle.ckr_volumes.specs.Layouts.{StandsIn}
 use Rattle.ckr_volumes.specs.declared.layout.Layout.{Layout}
-use Rattle.ckr_desk.proofs.Images.NextEvent.{events-more, opens-grown, replayed-so, sound-grown}
+use Rattle.ckr_desk.proofs.Images.NextEvent.{events-more, opens-grown, sound-grown}
 use Rattle.ckr_desk.proofs.Openings.DeckRecords.{deck-records}
 use Rattle.ckr_desk.proofs.Trust.Events.{IsComing}
 use Rattle.ckr_desk.specs.Entries.{ArePlaced, bad_entry, effect_refusal, has_places, is_placed, run_refusal}
@@ -79,11 +80,6 @@ pub placed-same : (layout : Layout) (tables : TablesModel) (image : List ℕ) �
 unfolding bad_entry
 placed-same layout tables image placed =
     first-same (run_refusal layout tables image) (run_fault layout tables image) tables.runs (λ place row at. run-same layout tables image row (λ effect is. placed (suc place) row effect at is))
-
--- the tables of the office behind an event
-pub tables-behind : (now : Office) (event : Event) (deck : Option Job) → (office_after (event, deck) now).tables ≡ after_event event deck now.tables
-tables-behind now (Submitted job cards) deck = refl
-tables-behind now _ deck = refl
 
 -- ---- records that bring about tables
 
@@ -164,7 +160,7 @@ module _ {D : Type 0} (told : Type 0) (content : D → List ℕ) (may_leave : D 
     sound-then = sound-grown layout (content old.store.disk) event coming.is_event trusted.events coming.next
 
     brings-then : behind_records layout no_tables 0 grown ≡ Ok tables_then
-    brings-then = opens-grown layout before old.jobs.tables.desk tables_then event trusted.opens coming.is_event (replayed-so layout old.jobs.tables.desk event coming.goes)
+    brings-then = opens-grown layout before old.jobs.tables.desk tables_then event trusted.opens coming.is_event (replayed-some layout old.jobs.tables.desk event coming.goes)
 
     office-then : office (events_in grown) ≡ desk.office
     unfolding office_on

@@ -1,14 +1,14 @@
 -- With one event more in the book.
-use Rattle.std.proofs.Common.{◌≡◌, ◌+◌, ◌++◌, ℕ, List, [], ◌∷◌, length, cond, refl, ap, sym, ◌∙◌, subst, append-nil, Option, Some, None, Result, Ok, Err, true}
+use Rattle.std.proofs.Common.{◌≡◌, ◌+◌, ◌++◌, ℕ, List, [], ◌∷◌, length, refl, ap, sym, ◌∙◌, subst, append-nil, Option, Some, None, Result, Ok, Err}
 use Rattle.std.proofs.lemmas.Grind.{flat_map-append}
 use Rattle.ckr_events.proofs.Events.{event_again}
 use Rattle.ckr_events.specs.declared.event.Event.{Event}
 use Rattle.ckr_events.specs.declared.event.Event.TheVariants.{Submitted}
 use Rattle.ckr_events.specs.Event.{IsEvent, IsSmall, event_of, spelling}
-use Rattle.ckr_desk_memory.specs.Replay.{deck_of, goes_on, replayed}
+use Rattle.ckr_desk_memory.specs.Replay.{deck_of, replayed}
 use Rattle.ckr_points.specs.Events.{AreSound, IsNext}
 use Rattle.ckr_points.specs.Office.{office, office_after}
-use Rattle.ckr_points.specs.Restart.{Decked, after_event}
+use Rattle.ckr_points.specs.Restart.{Decked}
 use Rattle.ckr_points.specs.Rows.{TablesModel, no_tables}
 use Rattle.ckr_points_invariant.proofs.EventList.{office-more, sound-more}
 use Rattle.ckr_desk_store.specs.OpenImages.{event_records}
@@ -76,11 +76,6 @@ pub opens-grown : (layout : Layout) (records : List (List ℕ)) (tables behind :
 opens-grown layout records tables behind event opens is follows =
     let more = appended layout no_tables 0 records (spelling event ∷ []) tables opens in
     more.1 ∙ one_record layout tables more.0 event behind (event_again event is) follows
-
--- an event by which the desk goes on
-pub replayed-so : (layout : Layout) (tables : TablesModel) (event : Event) → goes_on layout tables event (deck_of event) ≡ true → replayed layout tables event ≡ Some (after_event event (deck_of event) tables)
-unfolding replayed
-replayed-so layout tables event goes = ap (λ b. cond b (Some (after_event event (deck_of event) tables)) None) goes
 
 -- only an event that submits has a deck
 pub deck-none : (event : Event) → IsSmall event → deck_of event ≡ None

@@ -6,6 +6,7 @@ use Rattle.ckr_events.specs.declared.event.Event.{Event}
 use Rattle.ckr_events.specs.declared.event.Event.TheVariants.{Submitted}
 use Rattle.ckr_events.specs.Event.{spelling}
 use Rattle.ckr_desk_memory.specs.Replay.{deck_of}
+use Rattle.ckr_desk_memory.proofs.Replays.{replayed-some}
 use Rattle.ckr_desk_refines.specs.Commits.{HasCommitted}
 use Rattle.ckr_desk_refines.specs.Entries.{HasEntries}
 use Rattle.ckr_desk_refines.specs.Moves.{HasSameRecords}
@@ -21,7 +22,7 @@ use Rattle.ckr_volumes.specs.declared.layout.Layout.{Layout}
 use Rattle.ckr_volumes.specs.Header.{header_of}
 use Rattle.ckr_desk.proofs.Images.Entries.{none-bad-on, same-has}
 use Rattle.ckr_desk.proofs.Images.LastRecord.{again-so}
-use Rattle.ckr_desk.proofs.Images.NextEvent.{office-grown, office-same, opens-grown, replayed-so, sound-grown}
+use Rattle.ckr_desk.proofs.Images.NextEvent.{office-grown, office-same, opens-grown, sound-grown}
 use Rattle.ckr_desk.proofs.Openings.Answers.{by_its_book}
 use Rattle.ckr_desk.proofs.Trust.Events.{IsComing, last-grown}
 use Rattle.ckr_desk.specs.declared.error.OpenError.{OpenError}
@@ -118,7 +119,7 @@ module _ {D : Type 0} (told : Type 0) (content : D → List ℕ) (may_leave : D 
               (office-grown layout (content old.store.disk) image event coming.is_event opens.list ∙ sym coming.office)
               (ap (λ records. behind_records layout no_tables 0 records) opens.list
               ∙ opens-grown layout before old.jobs.tables.desk (after_event event (deck_of event) old.jobs.tables.desk) event trusted.opens coming.is_event
-              (replayed-so layout old.jobs.tables.desk event coming.goes)
+              (replayed-some layout old.jobs.tables.desk event coming.goes)
               ∙ ap (λ t. Ok (after_event event (deck_of event) t)) trusted.stands.tables ∙ sym (with-tables event office_now (after_event event (deck_of event) office_now.tables)) ∙ ap (λ (o : Office). Ok o.tables) (sym coming.office))
               (subst (λ records. AreSound layout (events_in records)) (sym opens.list)
               (sound-grown layout (content old.store.disk) event coming.is_event trusted.events coming.next))

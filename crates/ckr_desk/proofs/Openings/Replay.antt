@@ -14,13 +14,13 @@ use Rattle.ckr_desk_turn.specs.Queue.{AreNumbered}
 use Rattle.ckr_journal.specs.declared.events.Next.{Next}
 use Rattle.ckr_journal.specs.declared.events.Next.TheVariants as Nexts
 use Rattle.ckr_journal.specs.Events.{EventAt, IsBadAt, NoEventAt, GoesOnAt, ReadAt}
+use Rattle.ckr_journal.proofs.FreshDisks.{ends_behind}
 use Rattle.ckr_points.specs.Restart.{Decked, after_event}
 use Rattle.ckr_points.specs.Rows.{TablesModel, no_tables}
 use Rattle.ckr_desk_refines.specs.RewriteRecord.{last_event}
 use Rattle.ckr_volumes.specs.declared.layout.Layout.{Layout}
-use Rattle.ckr_volumes.specs.declared.layout.Volume.{Volume}
 use Rattle.ckr_volumes.specs.Header.{IsHeader}
-use Rattle.ckr_volumes.specs.Layouts.{front_of, volumes_end}
+use Rattle.ckr_volumes.specs.Layouts.{front_of}
 use Rattle.ckr_desk.proofs.Openings.LongRecords.{long_behind}
 use Rattle.ckr_desk.specs.declared.error.OpenError.{OpenError}
 use Rattle.ckr_desk.specs.declared.error.OpenError.TheVariants.{BadBook}
@@ -143,12 +143,8 @@ at_end layout book tables place earlier none =
 
 -- ---- the disk's size
 
-volumes_behind : (at : ℕ) (volumes : List Volume) → at ≤ volumes_end at volumes
-volumes_behind at [] = omega arith
-volumes_behind at (volume ∷ rest) = omega (arith, volumes_behind (at + volume.bytes) rest)
-
 pub book_inside : (layout : Layout) (size : ℕ) → IsHeader layout size → 512 + layout.book ≤ size
-book_inside layout size header = omega (arith, header.fits, volumes_behind (front_of layout) layout.volumes.items)
+book_inside layout size header = omega (arith, header.fits, ends_behind (front_of layout) layout.volumes.items)
 
 -- ---- why an event wasn't read
 

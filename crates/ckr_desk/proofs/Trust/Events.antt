@@ -3,6 +3,7 @@ use Rattle.std.proofs.Common.{◌≡◌, ◌++◌, ℕ, List, [], ◌∷◌, tru
 use Rattle.ckr_events.specs.declared.event.Event.{Event}
 use Rattle.ckr_events.specs.Event.{IsEvent, spelling}
 use Rattle.ckr_desk_memory.specs.Replay.{deck_of, goes_on}
+use Rattle.ckr_desk_memory.proofs.Replays.{replayed-some}
 use Rattle.ckr_desk_turn.specs.Invariant.{IsDesk}
 use Rattle.ckr_desk_refines.specs.Commits.{HasCommitted}
 use Rattle.ckr_desk_refines.specs.Entries.{HasEntries}
@@ -18,7 +19,7 @@ use Rattle.ckr_desk_store.specs.OpenImages.{event_records}
 use Rattle.ckr_desk_turn.specs.Desk.{DeskModel}
 use Rattle.ckr_volumes.specs.declared.layout.Layout.{Layout}
 use Rattle.ckr_desk.proofs.Images.LastRecord.{again-only}
-use Rattle.ckr_desk.proofs.Images.NextEvent.{events-more, office-grown, opens-grown, replayed-so, sound-grown}
+use Rattle.ckr_desk.proofs.Images.NextEvent.{events-more, office-grown, opens-grown, sound-grown}
 use Rattle.ckr_desk.specs.Opening.{behind_records}
 use Rattle.ckr_desk.specs.Soundness.{IsTrusted, events_in, last_on, office_on, state_of}
 use Rattle.ckr_desk.specs.State.{DeskView}
@@ -96,7 +97,7 @@ module _ {D : Type 0} (told : Type 0) (content : D → List ℕ) (may_leave : D 
       opens = subst (λ l. behind_records l no_tables 0 (event_records l (content new.store.disk)) ≡ Ok new.jobs.tables.desk) (sym is.layout)
           (ap (λ records. behind_records layout no_tables 0 records) is.events
           ∙ opens-grown layout (event_records layout (content old.store.disk)) old.jobs.tables.desk (after_event event (deck_of event) old.jobs.tables.desk) event trusted.opens coming.is_event
-          (replayed-so layout old.jobs.tables.desk event coming.goes)
+          (replayed-some layout old.jobs.tables.desk event coming.goes)
           ∙ ap Ok (sym is.tables));
       events = subst (λ l. AreSound l (events_in (event_records l (content new.store.disk)))) (sym is.layout)
           (subst (λ records. AreSound layout (events_in records)) (sym is.events)

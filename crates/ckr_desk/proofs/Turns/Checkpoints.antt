@@ -1,10 +1,7 @@
 -- A turn that passes a checkpoint, for which no entry is written, from the desk as it stood.
-use Rattle.std.proofs.Common.{◌≡◌, ℕ, false, List, [], ◌∷◌, refl, ap, sym, ◌∙◌, Ok}
-use Rattle.std.specs.List.{AllByRecursion}
+use Rattle.std.proofs.Common.{◌≡◌, ℕ, false, List, refl, ap, sym, ◌∙◌, Ok}
 use Rattle.ckr_console.specs.declared.question.Answer.{Answer}
-use Rattle.ckr_desk_memory.specs.Invariant.{IsRunnable}
-use Rattle.ckr_desk_memory.specs.Plans.{HasCounts}
-use Rattle.ckr_desk_memory.specs.View.{JobsView, RunningStepView}
+use Rattle.ckr_desk_memory.specs.View.{JobsView}
 use Rattle.ckr_outside.specs.Disk.{EachSince}
 use Rattle.ckr_desk_refines.proofs.Units.Checkpoints.{passed-stands}
 use Rattle.ckr_desk_refines.specs.Unit.{HasPassed}
@@ -13,7 +10,6 @@ use Rattle.ckr_desk_turn.specs.declared.plan.Plan.TheVariants.{Pass}
 use Rattle.ckr_points.specs.declared.reply.Reply.{Reply}
 use Rattle.ckr_desk_turn.specs.Turns.{MountedTurn, plan_for}
 use Rattle.ckr_desk_turn.specs.Desk.{TurnDone, done_by, jobs_of as jobs_of_desk}
-use Rattle.ckr_volumes.specs.declared.layout.Layout.{Layout}
 use Rattle.ckr_desk.proofs.Turns.Events.{plans-desk, turned}
 use Rattle.ckr_desk.proofs.Turns.Resting.{turned-resting}
 use Rattle.ckr_desk.specs.Rewrite.{OpensSame}
@@ -21,11 +17,6 @@ use Rattle.ckr_desk.specs.Soundness.{state_of}
 use Rattle.ckr_desk.specs.State.{DeskView, MachineRoomView, RoomyDesk}
 use Rattle.ckr_desk.specs.Turn.{asks}
 use Rattle.ckr_desk.specs.Units.{HasTurned, IsPlanned}
-
--- the numbers of running steps are in their ranges
-pub all-counted : (layout : Layout) (running : List RunningStepView) → AllByRecursion (IsRunnable layout) running → AllByRecursion HasCounts running
-all-counted layout [] each = tt
-all-counted layout (on ∷ running) each = (each.0.counted, all-counted layout running each.1)
 
 module _ {D : Type 0} (told : Type 0) (content : D → List ℕ) (may_leave : D → List ℕ → Type 0) (moment : D → ℕ) (left_since : D → ℕ → List ℕ → Type 0) (size : D → ℕ)
     (old : DeskView D) (turn : MountedTurn) (answer : Answer) (job : ℕ) (reply : Reply) (jobs : JobsView) (room : MachineRoomView) (passed : HasPassed job old.jobs jobs) (p : IsPlanned told content may_leave old turn (Pass job reply)) where

@@ -28,8 +28,8 @@ use Rattle.ckr_desk_turn.specs.Desk.{DeskModel, work_of}
 use Rattle.ckr_volumes.specs.declared.layout.Layout.{Layout}
 use Rattle.ckr_desk_refines.proofs.Units.Replies.{plain_of}
 use Rattle.ckr_desk_refines.specs.Unit.{IsPutBack, StandsBehindUnit}
+use Rattle.ckr_desk_refines.proofs.Events.Commits.{stopped-writes}
 use Rattle.ckr_desk.proofs.Units.Events.{Ensues, ended-ensues, held-ensues, restarted-ensues}
-use Rattle.ckr_desk.proofs.Units.Plans.{stopped-writes}
 
 module _ (old : JobsView) (image after : List ℕ) (desk : DeskModel) (turn : MountedTurn) (run : ℕ) (on moved : RunningStepView) (code : Code)
     (done : StandsBehindUnit desk.layout old image after desk turn run on moved (Abend code)) (put : JobsView) (put-back : IsPutBack run moved old put)

@@ -1,6 +1,5 @@
 -- What the event of a unit brings about, where its step ends with a code, and its run ends, is held or is restarted, and where it rewrites a record.
 use Rattle.std.proofs.Common.{◌≡◌, ◌≤◌, ◌<◌, ℕ, Bool, true, List, cond, refl, ap, sym, ◌∙◌, subst, slice_set, Option, Some, None}
-use Rattle.std.specs.Prelude.{IsTrue}
 use Rattle.std.specs.Option.{option_map, option_map_or}
 use Rattle.std.proofs.lemmas.Option.{same_Some}
 use Rattle.arrayvec.specs.ArrayVec.{ArrayVec}
@@ -23,7 +22,6 @@ use Rattle.ckr_library.proofs.Named.{at-with_changed, name-equivalence}
 use Rattle.ckr_meaning.specs.EffectiveJob.{Effective, OwnedStep}
 use Rattle.ckr_meaning.specs.LibrarySet.{LibrarySet}
 use Rattle.ckr_meaning.specs.StepRun.{StepStart, rewritten, within_at}
-use Rattle.ckr_outside.specs.Disk.{part}
 use Rattle.ckr_points.specs.Payload.{writes_in}
 use Rattle.ckr_points.specs.Office.{Office, office_after}
 use Rattle.ckr_points.specs.Restart.{after_event, place_of}
@@ -52,13 +50,12 @@ use Rattle.ckr_desk_refines.proofs.Events.Turns.{code-committed, code-stands, he
 use Rattle.ckr_desk_turn.specs.Turns.{MountedTurn}
 use Rattle.ckr_desk_turn.specs.Desk.{DeskModel, TurnDone, behind, work_of}
 use Rattle.ckr_volumes.specs.declared.layout.Layout.{Layout}
-use Rattle.ckr_volumes.specs.Places.{StretchModel, address_of, stretches_of, stretches_of_parts}
-use Rattle.ckr_volumes.specs.Records.{record_at}
-use Rattle.ckr_volumes.specs.SamePlaces.{SamePlaces, same_address, same_places}
-use Rattle.ckr_volumes.specs.Layouts.{lie_apart, lists_apart}
+use Rattle.ckr_volumes.specs.SamePlaces.{SamePlaces, same_places}
 use Rattle.ckr_desk_refines.proofs.Units.Desk.{pair, progress-at, unclosed, work-kept}
 use Rattle.ckr_desk_refines.proofs.Units.Codes.{coded-behind, coded-but, coded-within}
 use Rattle.ckr_desk_refines.specs.Unit.{IsPutBack, StandsBehindUnit}
+use Rattle.ckr_desk_refines.proofs.Durable.Units.{apart-there}
+use Rattle.ckr_desk_refines.proofs.Entries.There.{same-record}
 use Rattle.ckr_desk.proofs.Images.Entries.{HasNewOne}
 use Rattle.ckr_desk.proofs.Images.LastRecord.{again-so}
 use Rattle.ckr_desk.proofs.Images.WrittenRecord.{TellsRecord}
@@ -86,17 +83,6 @@ pub record Ensues (put : JobsView) (after : List ℕ) (desk : DeskModel) (run : 
 
 turned-places : (one two : DataSet) → SamePlaces one two → SamePlaces two one
 turned-places one two same = record { parts = sym same.parts; lrecl = sym same.lrecl }
-
-apart-there : (one two other : DataSet) → SamePlaces one two → IsTrue (lie_apart one other) → IsTrue (lie_apart two other)
-apart-there one two other same apart =
-    ap (λ (stretches : List StretchModel). lists_apart two.lrecl other.lrecl stretches (stretches_of other)) (ap stretches_of_parts same.parts)
-    ∙ ap (λ (lrecl : ℕ). lists_apart lrecl other.lrecl (stretches_of one) (stretches_of other)) same.lrecl
-    ∙ apart
-
-same-record : (image : List ℕ) (layout : Layout) (one other : DataSet) → SamePlaces one other → (at : ℕ) → record_at image layout other at ≡ record_at image layout one at
-same-record image layout one other same at =
-    ap (λ (n : ℕ). part n other.lrecl image) (same_address layout one other same at)
-    ∙ ap (λ (lrecl : ℕ). part (address_of layout one at) lrecl image) same.lrecl
 
 written-there : (layout : Layout) (one other : DataSet) (place : ℕ) (bytes before after : List ℕ) → SamePlaces one other → other.space ≡ one.space → IsWritten layout one place bytes before after → IsWritten layout other place bytes before after
 written-there layout one other place bytes before after same space wrote = record {

@@ -14,17 +14,11 @@ use Rattle.ckr_points.specs.Rows.{RunRow, run_of}
 use Rattle.ckr_desk_refines.specs.Moves.{event_in}
 use Rattle.ckr_desk_turn.specs.Codes.{CodePlaceModel, inquiry_of}
 use Rattle.ckr_desk_turn.specs.Inquiries.{decided}
-use Rattle.ckr_desk_turn.specs.Jobs.{TurnStep, as_stopped}
 use Rattle.ckr_desk_turn.specs.declared.plan.Plan.{Plan}
 use Rattle.ckr_desk_turn.specs.declared.plan.Plan.TheVariants.{Rest, Tell, Work, Pass, Take, Ask, Wait}
 use Rattle.ckr_desk_turn.specs.Desk.{DeskModel, TurnDone, done_by, progress_of, start_of, with_progress, work_of}
 use Rattle.ckr_desk_turn.specs.Units.{unit_end}
 use Rattle.ckr_desk_turn.specs.Spelling.{IsSpelled}
-
--- a step that has stopped has made the same writes
-pub stopped-writes : (code : Option Code) (step : TurnStep) → (as_stopped code step).writes ≡ step.writes
-stopped-writes None step = refl
-stopped-writes (Some code) step = refl
 
 -- what is said of a plan with an event is said of the event
 pub spelled-in : (plan : Plan) → IsSpelledPlan plan → (event : Event) → event_in plan ≡ Some event → IsSpelled event

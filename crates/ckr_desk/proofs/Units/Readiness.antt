@@ -9,7 +9,7 @@ use Rattle.ckr_desk_memory.specs.Model.RewriteCounts.{may_count}
 use Rattle.ckr_desk_memory.specs.declared.preparation.Prepared.{Prepared}
 use Rattle.ckr_desk_memory.specs.EventChanges.{is_point_of}
 use Rattle.ckr_desk_memory.proofs.Holders.OwnUnits.{others-commit}
-use Rattle.ckr_desk_memory.specs.OwnSteps.{IsOfOther, KnowsItsPoint, LeavesLeft, PlanCommits, PlanIsOf, PlanLeaves}
+use Rattle.ckr_desk_memory.specs.OwnSteps.{IsOfOther, KnowsItsPoint, PlanCommits, PlanIsOf}
 use Rattle.ckr_desk_memory.specs.Plans.{IsUnitPlan, is_unit_event}
 use Rattle.ckr_desk_memory.specs.Preparation.{HasAgain, IsPrepared}
 use Rattle.ckr_desk_memory.specs.View.{PointView, RunningStepView}
@@ -18,7 +18,6 @@ use Rattle.ckr_points_tables.specs.Invariant.{HasRoom}
 use Rattle.ckr_points_tables.specs.View.{RoomyTables}
 use Rattle.ckr_desk_refines.specs.Moves.{event_in}
 use Rattle.ckr_desk_turn.specs.Inquiries.{is_ask}
-use Rattle.ckr_desk_turn.specs.declared.failed_run.FailedRun.{FailedRun}
 use Rattle.ckr_desk_turn.specs.declared.plan.Plan.{Plan}
 use Rattle.ckr_desk_turn.specs.declared.plan.Plan.TheVariants.{Rest, Tell, Work, Pass, Take, Ask, Wait}
 use Rattle.ckr_desk.specs.declared.preparation.Ready.{Ready}
@@ -43,18 +42,6 @@ event-knows tables points _ its = tt
 pub unit-knows : (tables : TablesModel) (points : List PointView) (plan : Plan) → IsUnitPlan plan → PlanKnows tables points plan
 unit-knows tables points (Tell reply event) shape = event-knows tables points event shape
 unit-knows tables points _ shape = tt
-
--- and it ends no step of a run that was running when the system failed
-leaves-so : (failed : List FailedRun) (event : Event) → is_unit_event event ≡ true → LeavesLeft event failed
-leaves-so failed (Rewritten job taken writes lengths place image) its = tt
-leaves-so failed (Restarted job initiator code checkpoint) its = tt
-leaves-so failed (Held job code writes lengths) its = tt
-leaves-so failed (Ended job ending) its = tt
-leaves-so failed _ its = absurd (false≢true its)
-
-pub unit-leaves : (failed : List FailedRun) (plan : Plan) → IsUnitPlan plan → PlanLeaves failed plan
-unit-leaves failed (Tell reply event) shape = leaves-so failed event shape
-unit-leaves failed _ shape = tt
 
 -- what the unit's step commits, it commits behind the unit with steps of other runs beside it
 pub commits-beside : (tables : TablesModel) (run : ℕ) (plan : Plan) (seen moved : RunningStepView) (others : List RunningStepView) → PlanIsOf run plan → moved.run ≡ seen.run → moved.sets.sets ≡ seen.sets.sets

@@ -52,9 +52,10 @@ use Rattle.ckr_desk_refines.proofs.Units.Replies.{TellsSo}
 use Rattle.ckr_desk_refines.proofs.Units.Waits.{coded-waits}
 use Rattle.ckr_desk_refines.proofs.Units.Turns.{within-so}
 use Rattle.ckr_desk_refines.specs.Unit.{IsPutBack, StandsBehindUnit}
+use Rattle.ckr_desk_refines.proofs.Entries.Legs.{tables-behind}
 use Rattle.ckr_desk.proofs.Units.Events.{Ensues, rewrite-ensues}
 use Rattle.ckr_desk.proofs.Images.NextEvent.{deck-none, office-same}
-use Rattle.ckr_desk.proofs.Images.Entries.{behind-kept as entries-behind, behind-same as entries-behind-same, checks-then, kept-has, laid-then, same-has, tables-behind}
+use Rattle.ckr_desk.proofs.Images.Entries.{behind-kept as entries-behind, behind-same as entries-behind-same, checks-then, kept-has, laid-then, same-has}
 use Rattle.ckr_desk.proofs.Images.LastRecord.{again-keeping}
 use Rattle.ckr_desk.proofs.Images.Soundness.{kept-before}
 use Rattle.ckr_desk.proofs.Images.WrittenRecord.{TellsRecord, told-lacking, told-written}

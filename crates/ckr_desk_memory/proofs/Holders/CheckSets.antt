@@ -1,45 +1,26 @@
 -- The data set for checkpoints of a step is one of its outputs, and has the name of its role.
-use Rattle.std.proofs.Common.{◌≡◌, ◌==◌, ℕ, Bool, true, false, ◌&&◌, ◌||◌, List, [], ◌∷◌, filter, find, refl, ap, sym, ◌∙◌, Option, Some}
-use Rattle.std.specs.Prelude.{if◌then◌else◌, option_and_then}
+use Rattle.std.proofs.Common.{◌≡◌, ℕ, true, false, ◌&&◌, List, [], filter, find, ap, sym, ◌∙◌, Option, Some}
+use Rattle.std.specs.Prelude.{option_and_then}
 use Rattle.std.specs.Option.{option_map_or}
-use Rattle.std.proofs.lemmas.Bool.{and_from, false≢true, or_left, or_right}
+use Rattle.std.proofs.lemmas.Bool.{and_from, false≢true}
 use Rattle.ckr_base.proofs.Bools.{bool-cases}
 use Rattle.ckr_base.proofs.Options.{option-cases, some-not-none}
 use Rattle.ckr_base.proofs.Sequences.{any-filter, find-any, find-passes}
 use Rattle.ckr_jcl.specs.declared.deck.Dd.{Dd}
-use Rattle.ckr_jcl.specs.declared.deck.Role.{Role}
-use Rattle.ckr_jcl.specs.declared.deck.Role.TheVariants.{Checkpoints, Reads, Unused, Updates, Writes}
-use Rattle.ckr_library.proofs.Named.{name-itself, name-same, name-turned}
+use Rattle.ckr_library.proofs.Named.{name-itself, name-same}
 use Rattle.ckr_library.specs.NameMaps.{Name, same_name}
 use Rattle.ckr_meaning.specs.Allotments.{is_output}
 use Rattle.ckr_meaning.specs.EffectiveJob.{OwnedStep, is_among, name_of}
-use Rattle.ckr_points.specs.Follows.{is_length_of}
 use Rattle.ckr_points.specs.Tables.{is_checkpoints, name_with_role}
 use Rattle.ckr_points_invariant.proofs.Library.Entries.{among-filter_map, is_name}
 use Rattle.ckr_points_library.specs.Commit.{output_names}
 use Rattle.ckr_points_tables.specs.Checkpoint.{checkpoint_name}
-
--- a name with a length that a checkpoint tells is that of an output
-pub length-among : (name : Name) (most : ℕ) (names : List Name) (lengths : List ℕ) → is_length_of name most names lengths ≡ true → is_among names name ≡ true
-length-among name most [] lengths e = absurd (false≢true e)
-length-among name most (first ∷ names) [] e = absurd (false≢true e)
-length-among name most (first ∷ names) (now ∷ lengths) e = by (same_name first name) refl (length-among name most names lengths) e
-  where
-    by : (b : Bool) → same_name first name ≡ b → (is_length_of name most names lengths ≡ true → is_among names name ≡ true) → (if b then now == most else is_length_of name most names lengths) ≡ true → (same_name name first || is_among names name) ≡ true
-    by true same later e = or_left (same_name name first) (is_among names name) (name-turned name first ∙ same)
-    by false same later e = or_right (same_name name first) (is_among names name) (later e)
+use Rattle.ckr_desk_turn.proofs.Checkpoints.Events.{checks-output}
 
 -- what isn't among names is none of them
 pub not-among : (names : List Name) (one other : Name) → is_among names one ≡ false → is_among names other ≡ true → same_name one other ≡ false
 not-among names one other out among =
     bool-cases (same_name one other) (λ same. absurd (false≢true (sym out ∙ ap (is_among names) (name-same one other same) ∙ among))) (λ apart. apart)
-
-checks-output : (role : Role) → is_checkpoints role ≡ true → is_output role ≡ true
-checks-output Reads e = absurd (false≢true e)
-checks-output Writes e = absurd (false≢true e)
-checks-output Updates e = absurd (false≢true e)
-checks-output Checkpoints e = refl
-checks-output Unused e = absurd (false≢true e)
 
 module _ (root : ℕ) (owned : OwnedStep) (name : Name) (is : checkpoint_name root owned ≡ Some name) where
   by-dd : {A : Type 0} → ((dd : Dd) → find (λ (dd : Dd). is_checkpoints dd.role) owned.step.dds ≡ Some dd → name_of root owned dd ≡ Some name → A) → A

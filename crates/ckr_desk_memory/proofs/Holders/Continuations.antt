@@ -44,9 +44,10 @@ use Rattle.ckr_points_invariant.proofs.WrittenEntries.Sets.{put_back-has, remove
 use Rattle.ckr_volumes.specs.declared.layout.Layout.{Layout}
 use Rattle.ckr_desk_turn.proofs.AdmittedSteps.{spliced-here, spliced-named}
 use Rattle.ckr_desk_turn.specs.Queue.{AreNumbered}
+use Rattle.ckr_desk_turn.proofs.Queue.Events.{run_number}
 use Rattle.ckr_desk_memory.proofs.Holders.KeptEntries.{kept-put_back}
 use Rattle.ckr_desk_memory.proofs.Holders.OwnEntries.{kept-weaker}
-use Rattle.ckr_desk_memory.proofs.Holders.Moves.{IsOwnOf, RowGoesOn, each-entry, WasKept, each-through, own-kin, reached-named, row-as_is, row-next, row-number, single-through, was-kept}
+use Rattle.ckr_desk_memory.proofs.Holders.Moves.{IsOwnOf, RowGoesOn, each-entry, WasKept, each-through, own-kin, reached-named, row-as_is, row-next, single-through, was-kept}
 use Rattle.ckr_desk_memory.proofs.Holders.Names.{IsActing, changed-named, own-reached}
 use Rattle.ckr_desk_memory.proofs.Invariant.{idle_queued, unplaced-queued}
 use Rattle.ckr_desk_memory.proofs.Starts.Steps.{row-among}
@@ -71,7 +72,7 @@ single-found (first ∷ rest) id found single at = by (λ later. single-found re
 module _ (layout : Layout) (tables : TablesModel) (rows : AreNumbered 1 tables.runs) (placed : AllByRecursion IsPlacedRow tables.runs) (are : AreHolders tables) (job initiator before step : ℕ) (id : Option Name)
     (its : MayContinue layout tables job initiator (suc before) step id) where
   numbered : (number : ℕ) (row : RunRow) → run_of tables number ≡ Some row → row.number ≡ number
-  numbered number row at = row-number tables number row rows at
+  numbered number row at = run_number tables number row rows at
 
   -- what has no laws of its own on any disk isn't asked here
   abbrev pub office : Office

@@ -43,25 +43,28 @@ use Rattle.ckr_points_invariant.proofs.Steps.Events.{on-holds}
 use Rattle.ckr_points_invariant.proofs.Marks.Points.{point_at-new}
 use Rattle.ckr_points_invariant.proofs.WaitingRuns.{tested-run}
 use Rattle.ckr_points_invariant.proofs.WrittenEntries.Sets.{EachHas, GoesOnThrough, committed-has, disposed_all-has, made_all-has, opened_all-has, passed_ended-has, put_back-has, removed_all-has, rewritten-has}
+use Rattle.ckr_points_invariant.proofs.OtherRuns.Sets.{length-among}
 use Rattle.ckr_points_library.specs.Commit.{output_names}
 use Rattle.ckr_points_tables.specs.Invariant.{MaySubmit, is_submission}
 use Rattle.ckr_volumes.specs.declared.layout.Layout.{Layout}
-use Rattle.ckr_desk_memory.proofs.Holders.CheckSets.{length-among, not-among}
+use Rattle.ckr_desk_memory.proofs.Holders.CheckSets.{not-among}
 use Rattle.ckr_desk_memory.proofs.Holders.Continuations.{continued-goes}
 use Rattle.ckr_desk_memory.proofs.Holders.KeptEntries.{kept-changed, kept-committed, kept-of, kept-put_back, none-kept}
-use Rattle.ckr_desk_memory.proofs.Holders.Moves.{HasRow, RowGoesOn, RunGoesOn, by-own, by-row, goes-through, holders-go, row-accepted, row-as_is, row-next, row-number, run-goes}
+use Rattle.ckr_desk_memory.proofs.Holders.Moves.{HasRow, RowGoesOn, RunGoesOn, by-own, by-row, goes-through, holders-go, row-accepted, row-as_is, row-next, run-goes}
 use Rattle.ckr_desk_memory.proofs.Holders.Names.{changed-named, names-outside, outputs-changed, step-formed}
-use Rattle.ckr_desk_memory.proofs.Holders.OwnEntries.{checks-keep, kept-weaker, own-as, passed-as, passed-restarted, passed-rewritten, starts-own, step-first, steps-within, within-at}
+use Rattle.ckr_desk_memory.proofs.Holders.OwnEntries.{checks-keep, kept-weaker, own-as, passed-as, passed-restarted, passed-rewritten, starts-own, steps-within, within-at}
 use Rattle.ckr_desk_memory.proofs.Holders.Sets.{committed-outside, disposed-outside, passed-outside, put_back-outside, restarted-outside, started-outside, there-changed, there-committed, there-put_back, there-started, updated-outside}
 use Rattle.ckr_desk_memory.proofs.Holders.Submissions.{holders-submitted}
 use Rattle.ckr_desk_memory.proofs.Continuations.{by-continuation}
 use Rattle.ckr_desk_memory.proofs.Runs.{by-step}
 use Rattle.ckr_desk_memory.specs.Invariant.{IsAcceptedRow, IsAnyAccepted, IsPlacedRow, is_in_step}
-use Rattle.ckr_desk_memory.proofs.Invariant.{hand-in_step, in_step-holds, in_step-within, not-within, restarts-in_step, start-step, unplaced-queued}
+use Rattle.ckr_desk_memory.proofs.Invariant.{hand-in_step, in_step-holds, in_step-within, not-within, restarts-in_step, start-step, unplaced-queued, running_within}
 use Rattle.ckr_desk_memory.proofs.Queue.{held-is}
 use Rattle.ckr_desk_memory.proofs.Starts.Steps.{row-among}
 use Rattle.ckr_desk_turn.specs.Queue.{AreNumbered}
+use Rattle.ckr_desk_turn.proofs.Queue.Events.{run_number}
 use Rattle.ckr_desk_memory.specs.Holders.{AreHolders, AreOwn, HasOwnEffect, HasStartPassed, IsStartPassed, PassesOnOwn, PassesOwn, changed_names, reached_names, steps_begun}
+use Rattle.ckr_desk_memory.proofs.FoundRuns.{first-step}
 
 -- ---- tests
 
@@ -80,9 +83,6 @@ released-holds ReleasedRun e = refl
 released-holds EndedRun e = absurd (false≢true e)
 released-holds DeniedRun e = absurd (false≢true e)
 released-holds PurgedRun e = absurd (false≢true e)
-
-running-within : (row : RunRow) → is_running row ≡ true → is_within (place_of row) ≡ true
-running-within row runs = and-second (is_in_state On row) (is_within (place_of row)) runs
 
 running-holds : (row : RunRow) → is_running row ≡ true → is_holder row.state ≡ true
 running-holds row runs = on-holds row.state (and-first (is_in_state On row) (is_within (place_of row)) runs)
@@ -129,7 +129,7 @@ points-rewritten P step (first ∷ rest) each = (by (first.step == step), points
     by true = each.0
     by false = each.0
 
-rewritten-effect : {A : Type 0} (before : Option EffectPoint) (effect : EffectPoint) → option_map effect_rewritten before ≡ Some effect → ((was : EffectPoint) → before ≡ Some was → effect_rewritten was ≡ effect → A) → A
+pub rewritten-effect : {A : Type 0} (before : Option EffectPoint) (effect : EffectPoint) → option_map effect_rewritten before ≡ Some effect → ((was : EffectPoint) → before ≡ Some was → effect_rewritten was ≡ effect → A) → A
 rewritten-effect None effect is use_it = absurd (some-not-none effect (sym is))
 rewritten-effect (Some was) effect is use_it = use_it was refl (same_Some (effect_rewritten was) effect is)
 
@@ -144,7 +144,7 @@ module _ (tables : TablesModel) (rows : AllByRecursion IsAcceptedRow tables.runs
   Goes after = RunGoesOn tables after job
 
   mine : row.number ≡ job
-  mine = row-number tables job row numbered at
+  mine = run_number tables job row numbered at
 
   accepted : IsAcceptedRow row
   accepted = row-accepted tables job row rows at
@@ -317,10 +317,10 @@ module _ (tables : TablesModel) (rows : AllByRecursion IsAcceptedRow tables.runs
       from_is = refl;
       on = holds-on (running-holds row runs);
       begins = λ was now. absurd (false≢true (sym was ∙ now));
-      start = λ begun own ends at. passed-rewritten row (step_in (place_of row)) _ refl (begun (holds-on (running-holds row runs)) (within-at (place_of row) (running-within row runs)));
+      start = λ begun own ends at. passed-rewritten row (step_in (place_of row)) _ refl (begun (holds-on (running-holds row runs)) (within-at (place_of row) (running_within row runs)));
       own = λ begun set point its. record {
         first = its.first;
-        begun = subst (λ n. point.step < n) (steps-within (place_of row) (running-within row runs)) its.begun;
+        begun = subst (λ n. point.step < n) (steps-within (place_of row) (running_within row runs)) its.begun;
         passed = passed-rewritten row (step_in (place_of row)) _ refl its.passed;
         changes = its.changes;
       };
@@ -383,17 +383,17 @@ module _ (tables : TablesModel) (rows : AllByRecursion IsAcceptedRow tables.runs
           from_is = refl;
           on = holds-on (running-holds row runs);
           begins = λ was now. absurd (false≢true (sym was ∙ now));
-          start = λ begun own ends at. passed-as row _ refl (begun (holds-on (running-holds row runs)) (within-at (place_of row) (running-within row runs)));
-          own = λ begun set point its. own-as row _ refl (sym (steps-within (place_of row) (running-within row runs))) refl its;
+          start = λ begun own ends at. passed-as row _ refl (begun (holds-on (running-holds row runs)) (within-at (place_of row) (running_within row runs)));
+          own = λ begun set point its. own-as row _ refl (sym (steps-within (place_of row) (running_within row runs))) refl its;
           kept = λ begun.
               checks-keep tables.sets (output_names row.job.root owned) lengths set
               (kept_entry kept (entry_point row owned (step_in (place_of row)) taken writes (committed (output_names row.job.root owned) lengths tables.sets))) fresh _
               (record {
                 run = refl;
                 own = record {
-                  first = step-first row.job (step_in (place_of row)) owned found;
+                  first = first-step row.job (step_in (place_of row)) owned found;
                   begun = omega arith;
-                  passed = passed-as row _ refl (begun (holds-on (running-holds row runs)) (within-at (place_of row) (running-within row runs)));
+                  passed = passed-as row _ refl (begun (holds-on (running-holds row runs)) (within-at (place_of row) (running_within row runs)));
                   changes = λ other there.
                       subst (λ (own : OwnedStep). is_among (changed_names row.job.root own) set ≡ true) (some-one owned other (own_step row) found there) (outputs-changed row.job.root owned set output);
                 };
@@ -412,7 +412,7 @@ module _ (tables : TablesModel) (rows : AllByRecursion IsAcceptedRow tables.runs
                   changes = outputs-changed row.job.root owned set output;
                   entries =
                       kept-changed _ set set (with_kept_entry _) (committed (output_names row.job.root owned) lengths tables.sets)
-                      (λ table each. each-append _ table.entries _ each ((λ same. passed-as row _ refl (begun (holds-on (running-holds row runs)) (within-at (place_of row) (running-within row runs)))), tt))
+                      (λ table each. each-append _ table.entries _ each ((λ same. passed-as row _ refl (begun (holds-on (running-holds row runs)) (within-at (place_of row) (running_within row runs)))), tt))
                       (kept-committed _ (output_names row.job.root owned) lengths tables.sets set (none-kept _ kept.id tables.sets set fresh));
                 });
           };
@@ -442,7 +442,7 @@ module _ (tables : TablesModel) (rows : AllByRecursion IsAcceptedRow tables.runs
           on = holds-on (running-holds row runs);
           begins = λ was now. absurd (false≢true (sym was ∙ now));
           start = λ begun own ends at. absurd (false≢true at);
-          own = λ begun set point its. own-as row _ refl (sym (steps-within (place_of row) (running-within row runs))) refl its;
+          own = λ begun set point its. own-as row _ refl (sym (steps-within (place_of row) (running_within row runs))) refl its;
           kept = λ begun.
               goes-through tables.sets (after_dispositions row owned (step_in (place_of row)) false done).sets _
               (λ E through each.
@@ -844,8 +844,8 @@ pub others-stay : (layout : Layout) (tables : TablesModel) (event : Event) (deck
     → (number : ℕ) → number ≢ job_of event → run_of (after_event event deck tables) number ≡ run_of tables number
 others-stay layout tables (Selected job initiator (suc before) step id) deck rows numbered placed other follow number apart =
     by-continuation layout tables job initiator before step deck (λ after. run_of after number ≡ run_of tables number) id follow
-    (λ its. run-other tables _ number (λ e. apart (e ∙ row-number tables job its.row numbered its.row_at)))
-    (λ id its entry. run-other tables _ number (λ e. apart (e ∙ row-number tables job its.row numbered its.row_at)))
+    (λ its. run-other tables _ number (λ e. apart (e ∙ run_number tables job its.row numbered its.row_at)))
+    (λ id its entry. run-other tables _ number (λ e. apart (e ∙ run_number tables job its.row numbered its.row_at)))
 others-stay layout tables event deck rows numbered placed other follow number apart = (goes-on layout tables event deck rows numbered placed refl other follow).rows.others number apart
 
 -- holders stay apart by each event that follows

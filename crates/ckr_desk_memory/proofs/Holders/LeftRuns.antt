@@ -24,7 +24,7 @@ use Rattle.ckr_points_tables.specs.Invariant.{is_submission}
 use Rattle.ckr_volumes.specs.declared.layout.Layout.{Layout}
 use Rattle.ckr_desk_memory.proofs.Holders.Events.{by-some, others-stay}
 use Rattle.ckr_desk_memory.proofs.Holders.Submissions.{row-more}
-use Rattle.ckr_desk_memory.proofs.Holders.Moves.{by-own, by-row, row-as_is, row-next, row-number}
+use Rattle.ckr_desk_memory.proofs.Holders.Moves.{by-own, by-row, row-as_is, row-next}
 use Rattle.ckr_desk_memory.specs.EventChanges.{failed_in}
 use Rattle.ckr_desk_memory.specs.Invariant.{AreJobs, IsAcceptedRow, IsPlacedRow}
 use Rattle.ckr_desk_memory.specs.OwnSteps.{AreLeft, IsLeft, IsOther, LeavesLeft}
@@ -33,6 +33,7 @@ use Rattle.ckr_desk_turn.specs.declared.failed_run.FailedRun.{FailedRun}
 use Rattle.ckr_desk_turn.specs.Desk.{failed_behind, is_running as is_lodged, without_mark}
 use Rattle.ckr_desk_turn.specs.Invariant.{is_on_one}
 use Rattle.ckr_desk_turn.specs.Queue.{AreNumbered}
+use Rattle.ckr_desk_turn.proofs.Queue.Events.{run_number}
 
 -- so is each of these
 abbrev LeftIn : TablesModel → FailedRun → Type 0
@@ -101,7 +102,7 @@ module _ (layout : Layout) (tables : TablesModel) (rows : AllByRecursion IsAccep
       (λ owned found passes.
       by-some (λ after. IsLeft after job) (step_of_run row step) (λ owned. after_started row owned step items tables) tables owned found (
         _,
-        (row-next tables tables job row _ (after_started row owned step items tables).sets (row-as_is tables job row at) (row-number tables job row numbered at)).now,
+        (row-next tables tables job row _ (after_started row owned step items tables).sets (row-as_is tables job row at) (run_number tables job row numbered at)).now,
         and_from (is_in_state On row) true (and-first (is_in_state On row) _ follow) refl,
       ))
 
@@ -140,7 +141,7 @@ module _ (layout : Layout) (tables : TablesModel) (rows : AllByRecursion IsAccep
       by-row (λ after. IsLeft after job) tables job (λ row. by_step (λ owned step. after_rewritten row owned step writes lengths.items tables) row tables) row at
       (by-own (λ after. IsLeft after job) tables (λ owned step. after_rewritten row owned step writes lengths.items tables) row owned found (
         _,
-        (row-next tables tables job row _ (after_rewritten row owned (step_in (place_of row)) writes lengths.items tables).sets (row-as_is tables job row at) (row-number tables job row numbered at)).now,
+        (row-next tables tables job row _ (after_rewritten row owned (step_in (place_of row)) writes lengths.items tables).sets (row-as_is tables job row at) (run_number tables job row numbered at)).now,
         and_from (is_in_state On row) true (and-first (is_in_state On row) (is_within (place_of row)) (on_of job row at left)) refl,
       )))))) all
   left_on (Checkpointed job id taken writes lengths place bytes) deck failed follow leaves all =
@@ -155,7 +156,7 @@ module _ (layout : Layout) (tables : TablesModel) (rows : AllByRecursion IsAccep
       by-row (λ after. IsLeft after job) tables job (λ row. by_step (λ owned step. after_checkpointed row owned step kept taken writes lengths.items tables) row tables) row at
       (by-own (λ after. IsLeft after job) tables (λ owned step. after_checkpointed row owned step kept taken writes lengths.items tables) row owned found (
         _,
-        (row-next tables tables job row _ (after_checkpointed row owned (step_in (place_of row)) kept taken writes lengths.items tables).sets (row-as_is tables job row at) (row-number tables job row numbered at)).now,
+        (row-next tables tables job row _ (after_checkpointed row owned (step_in (place_of row)) kept taken writes lengths.items tables).sets (row-as_is tables job row at) (run_number tables job row numbered at)).now,
         and_from (is_in_state On row) true (and-first (is_in_state On row) (is_within (place_of row)) (on_of job row at left)) refl,
       )))))) all
   left_on (Cancelled job) deck failed follow leaves all =
@@ -163,7 +164,7 @@ module _ (layout : Layout) (tables : TablesModel) (rows : AllByRecursion IsAccep
       (one_left (Cancelled job) deck refl follow
       (λ left.
       by-row (λ after. IsLeft after job) tables job (λ row. after_cancelled row tables) left.0 left.1
-      (record left.0 { in_effect = None }, (row-next tables tables job left.0 _ tables.sets (row-as_is tables job left.0 left.1) (row-number tables job left.0 numbered left.1)).now, left.2))) all
+      (record left.0 { in_effect = None }, (row-next tables tables job left.0 _ tables.sets (row-as_is tables job left.0 left.1) (run_number tables job left.0 numbered left.1)).now, left.2))) all
   left_on (StepEnded job step rc writes lengths) deck failed follow leaves all = rest_left (StepEnded job step rc writes lengths) deck refl follow failed leaves all
   left_on (Restarted job initiator code checkpoint) deck failed follow leaves all =
       rest_left (Restarted job initiator code checkpoint) deck refl follow (failed_behind (Restarted job initiator code checkpoint) failed) (others-marked job failed) (marks-kept (LeftIn tables) job failed all)

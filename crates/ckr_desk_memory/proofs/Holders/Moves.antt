@@ -1,14 +1,13 @@
 -- What holds of the holders stays where the row of one run changes, and with it data sets that its job names.
-use Rattle.std.proofs.Common.{◌≡◌, ◌≢◌, ◌≤◌, ◌+◌, ◌==◌, ℕ, zero, suc, pred, Bool, true, false, ◌&&◌, not, List, [], ◌∷◌, drop, filter, cond, inl, inr, ⊎_elim, refl, ap, sym, ◌∙◌, subst, Some, arith}
+use Rattle.std.proofs.Common.{◌≡◌, ◌≢◌, ◌≤◌, ◌==◌, ℕ, zero, suc, pred, Bool, true, false, ◌&&◌, not, List, [], ◌∷◌, drop, filter, cond, inl, inr, ⊎_elim, refl, ap, sym, ◌∙◌, subst, Some}
 use Rattle.std.specs.Prelude.{slice_get}
 use mathlib.Core.Logic.{◌⊎◌}
 use Rattle.std.specs.List.{AllByRecursion}
 use Rattle.std.specs.Option.{is_some, option_map_or}
 use Rattle.std.proofs.lemmas.Bool.{false≢true, or_left}
 use Rattle.std.proofs.lemmas.List.Folds.{list_any-append}
-use Rattle.std.proofs.lemmas.Option.{same_Some}
 use Rattle.ckr_base.proofs.Bools.{bool-cases, or-cases}
-use Rattle.ckr_base.proofs.Numbers.{equal-itself, nat_le-true, number-cases, one-plus}
+use Rattle.ckr_base.proofs.Numbers.{equal-itself, nat_le-true, number-cases}
 use Rattle.ckr_base.proofs.Options.{some-not-none, some-one}
 use Rattle.ckr_base.proofs.Sequences.{all-get, each-by_place, each-filter, each-get, each-implies}
 use Rattle.ckr_jcl.specs.declared.deck.Job.{Job}
@@ -36,18 +35,10 @@ use Rattle.ckr_desk_memory.proofs.Starts.Steps.{row-among}
 use Rattle.ckr_desk_memory.specs.Invariant.{IsAcceptedRow, IsPlacedRow}
 use Rattle.ckr_desk_turn.specs.Invariant.{HasStepName}
 use Rattle.ckr_desk_turn.specs.Queue.{AreNumbered}
+use Rattle.ckr_desk_turn.proofs.Queue.Events.{run_number}
 use Rattle.ckr_desk_memory.specs.Holders.{AreHolders, AreOfDeck, AreSingleEntries, EachEntryKept, HasChanged, HasOwnEffect, HasStartPassed, HasStepNames, HoldApart, IsNamedEntry, IsOwnEntry, KeepsOwnEntries, PassesOnOwn, PassesOwn, changed_names, reached_names}
 
 -- ---- rows by number
-
-number_at : (rows : List RunRow) (from place : ℕ) (row : RunRow) → AreNumbered from rows → slice_get rows place ≡ Some row → row.number ≡ from + place
-number_at [] from place row numbered at = absurd (some-not-none row (sym at))
-number_at (first ∷ rows) from zero row numbered at = ap (λ (r : RunRow). r.number) (sym (same_Some first row at)) ∙ numbered.0 ∙ omega arith
-number_at (first ∷ rows) from (suc place) row numbered at = number_at rows (suc from) place row numbered.1 at ∙ omega arith
-
-pub row-number : (tables : TablesModel) (job : ℕ) (row : RunRow) → AreNumbered 1 tables.runs → run_of tables job ≡ Some row → row.number ≡ job
-row-number tables zero row numbered at = absurd (some-not-none row (sym at))
-row-number tables (suc place) row numbered at = number_at tables.runs 1 place row numbered at ∙ one-plus place
 
 pub row-accepted : (tables : TablesModel) (job : ℕ) (row : RunRow) → AllByRecursion IsAcceptedRow tables.runs → run_of tables job ≡ Some row → IsAcceptedRow row
 row-accepted tables zero row rows at = absurd (some-not-none row (sym at))
@@ -269,7 +260,7 @@ run-goes tables after job rows numbered goes = record {
   number = goes.number;
   deck = goes.deck;
   on = goes.on;
-  acts = acts-itself tables job goes.row goes.row_at (row-number tables job goes.row numbered goes.row_at) goes.on (row-accepted tables job goes.row rows goes.row_at);
+  acts = acts-itself tables job goes.row goes.row_at (run_number tables job goes.row numbered goes.row_at) goes.on (row-accepted tables job goes.row rows goes.row_at);
   kin = λ are. kin-same tables goes.row goes.next goes.number goes.deck goes.job_is (are.kin job goes.row goes.row_at);
   named = λ are. named-same tables goes.row goes.next goes.number goes.deck goes.job_is goes.from_is (are.named job goes.row goes.row_at);
   steps = λ are. steps-same goes.row goes.next goes.deck goes.job_is goes.from_is (are.steps job goes.row goes.row_at);
@@ -285,7 +276,7 @@ run-goes tables after job rows numbered goes = record {
   single = λ are. (goes.kept (are.begun job goes.row goes.row_at)).single are.single;
   wrote = λ are.
       each-entry (λ set entry. WasKept tables.sets set entry ⊎ IsNewEntry goes.row goes.next set entry) (λ set entry. WasKept tables.sets set entry ⊎ (entry.point.run ≡ job)) after.sets
-      (λ set entry either. ⊎_elim inl (λ (new : IsNewEntry goes.row goes.next set entry). inr (new.run ∙ row-number tables job goes.row numbered goes.row_at)) either)
+      (λ set entry either. ⊎_elim inl (λ (new : IsNewEntry goes.row goes.next set entry). inr (new.run ∙ run_number tables job goes.row numbered goes.row_at)) either)
       (goes.kept (are.begun job goes.row goes.row_at)).each;
   still = λ was now. goes.still was;
   outside = goes.outside;
@@ -360,12 +351,12 @@ module _ (tables after : TablesModel) (job : ℕ) (goes : RowGoesOn tables after
       accepted = row-accepted tables number its rows at
 
       same : its.number ≡ number
-      same = row-number tables number its numbered at
+      same = run_number tables number its numbered at
 
       reached : (is_holder goes.row.state ≡ false → is_holder goes.next.state ≡ true) → entry_at after.sets name ≡ entry_at tables.sets name
       reached mine =
           goes.outside (are.passed job goes.row goes.row_at).passed name
-          (changed-alone tables (λ one row its_row. row-number tables one row numbered its_row) are.orderly number job apart its goes.acting
+          (changed-alone tables (λ one row its_row. run_number tables one row numbered its_row) are.orderly number job apart its goes.acting
           (acts-itself tables number its at same (holder-ended its.state holding) accepted are) acts
           (ap (λ (row : RunRow). holds (uses_of its.number its.deck) (uses_of row.number row.deck)) acting-row
           ∙ holds-symm (uses_of its.number its.deck) (uses_of goes.row.number goes.row.deck) ∙ apart-from number its apart at mine holding)
@@ -441,7 +432,7 @@ module _ (tables after : TablesModel) (job : ℕ) (goes : RowGoesOn tables after
         (λ apart.
         let old : run_of tables number ≡ Some its = before number its apart at in
         each-later (IsOwnOf its) (λ set entry. entry.point.run ≡ job) tables.sets after.sets (goes.wrote are)
-        (λ set entry wrote own. absurd (apart (sym (row-number tables number its numbered old) ∙ sym own ∙ wrote))) (are.entries number its old));
+        (λ set entry wrote own. absurd (apart (sym (run_number tables number its numbered old) ∙ sym own ∙ wrote))) (are.entries number its old));
     written =
         each-later (λ set entry. is_some (run_of after entry.point.run) ≡ true) (λ set entry. entry.point.run ≡ job) tables.sets after.sets (goes.wrote are) (λ set entry wrote. ap (λ n. is_some (run_of after n)) wrote ∙ ap is_some goes.rows.now)
         (each-entry (λ set entry. is_some (run_of tables entry.point.run) ≡ true) (λ set entry. is_some (run_of after entry.point.run) ≡ true) tables.sets (λ set entry. still-there entry.point.run) are.written);

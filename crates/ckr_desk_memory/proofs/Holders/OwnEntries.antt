@@ -1,5 +1,5 @@
 -- What had been passed on at the entries that a run wrote, and at its step's start: so it stays as the run goes on, and each data set keeps one entry of an identifier.
-use Rattle.std.proofs.Common.{◌≡◌, ◌≤◌, ◌<◌, ◌==◌, ℕ, zero, suc, Bool, true, false, cond, if◌then◌else◌, List, [], ◌∷◌, ◌++◌, map, refl, ap, sym, ◌∙◌, subst, Option, Some, None, arith, inr}
+use Rattle.std.proofs.Common.{◌≡◌, ◌≤◌, ◌<◌, ◌==◌, ℕ, suc, Bool, true, false, cond, if◌then◌else◌, List, [], ◌∷◌, ◌++◌, map, refl, ap, sym, ◌∙◌, subst, Option, Some, None, arith, inr}
 use mathlib.Core.Logic.{◌⊎◌}
 use Rattle.std.specs.List.{AllByRecursion}
 use Rattle.std.specs.Option.{is_none, option_map}
@@ -43,10 +43,6 @@ started-most : (step : ℕ) (place : Place) → may_start step place ≡ true �
 started-most step (Before number) may = let is = start-step step (Before number) may in omega (arith, is)
 started-most step (Opened number) may = let is = start-step step (Opened number) may in omega (arith, is)
 started-most step (Within number writes) may = absurd (false≢true may)
-
-pub step-first : (job : Effective) (number : ℕ) (owned : OwnedStep) → step_at job number ≡ Some owned → 1 ≤ number
-step-first job zero owned found = absurd (some-not-none owned (sym found))
-step-first job (suc before) owned found = omega arith
 
 -- ---- points
 

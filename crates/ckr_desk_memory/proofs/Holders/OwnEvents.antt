@@ -11,6 +11,7 @@ use Rattle.ckr_base.specs.declared.code.Code.{Code}
 use Rattle.ckr_points.specs.Soundness.{AreLaidOut}
 use Rattle.ckr_points_invariant.proofs.Restart.Verdicts.{restarts-again}
 use Rattle.ckr_points_invariant.proofs.Steps.Events.{on-holds}
+use Rattle.ckr_points_invariant.proofs.Rewrite.Invariant.{update-is}
 use Rattle.ckr_volumes.specs.Layouts.{StandsIn}
 use Rattle.arrayvec.specs.ArrayVec.{ArrayVec}
 use Rattle.ckr_base.specs.declared.record.Rec.{Rec}
@@ -48,7 +49,6 @@ use Rattle.ckr_desk_memory.proofs.Holders.Moves.{row-accepted}
 use Rattle.ckr_desk_memory.proofs.Holders.Names.{outputs-changed, step-formed}
 use Rattle.ckr_desk_memory.proofs.Holders.OwnSets.{up_to-itself}
 use Rattle.ckr_desk_memory.proofs.Holders.Rewrites.{AsksForRewrite, IsRewriteIn, rewrite-asked}
-use Rattle.ckr_desk_memory.proofs.Holders.Units.{update-is}
 use Rattle.ckr_desk_memory.proofs.Holders.Masters.{updated-changed, updated-dd}
 use Rattle.ckr_desk_memory.proofs.Invariant.{begun-within, released-within}
 use Rattle.ckr_desk_memory.proofs.Queue.{on-is, released-is}

@@ -35,7 +35,8 @@ use Rattle.ckr_desk_turn.specs.Queue.{AreNumbered}
 use Rattle.ckr_desk_turn.specs.Select.{is_on, may_select, next_run, run_on_initiator}
 use Rattle.ckr_desk_turn.proofs.Codes.{by-verdict}
 use Rattle.ckr_desk_turn.proofs.NextEvents.BetweenSteps.{free-there, lodged-on, next_cases}
-use Rattle.ckr_desk_memory.proofs.FoundRuns.{found-run, running-found, stopped-reached, working-is, working_of}
+use Rattle.ckr_desk_turn.proofs.RunningSteps.{stopped-reached}
+use Rattle.ckr_desk_memory.proofs.FoundRuns.{found-run, running-found, working-is, working_of}
 use Rattle.ckr_desk_memory.proofs.Holders.Inquiries.{coded-plan}
 use Rattle.ckr_desk_memory.proofs.Holders.OwnEvents.{left-follows, own-follows, released-hand, released-restarts, restarts-follow, running-hand}
 use Rattle.ckr_desk_memory.proofs.Holders.PlanCases.{PlanCases, plan-cases}

@@ -23,7 +23,7 @@ use Rattle.ckr_points_tables.specs.Invariant.{MaySubmit}
 use Rattle.ckr_points_tables.specs.View.{RoomyTables}
 use Rattle.ckr_volumes.specs.declared.layout.Layout.{Layout}
 use Rattle.ckr_desk_memory.proofs.Holders.Events.{by-some, holders-none, holders-stay, no-row}
-use Rattle.ckr_desk_memory.proofs.Holders.Moves.{by-row, row-as_is, row-next, row-number}
+use Rattle.ckr_desk_memory.proofs.Holders.Moves.{by-row, row-as_is, row-next}
 use Rattle.ckr_desk_memory.proofs.Holders.OwnSets.{running-served}
 use Rattle.ckr_desk_memory.proofs.Holders.Points.{points-stay}
 use Rattle.ckr_desk_memory.proofs.Holders.RunningSteps.{running-stay}
@@ -45,6 +45,7 @@ use Rattle.ckr_desk_memory.specs.RunningSteps.{GoesOn, StepGoesBack, StepStarts}
 use Rattle.ckr_desk_memory.specs.Start.{HasNew}
 use Rattle.ckr_desk_memory.specs.View.{JobsView, PointView, RunningStepView, begun}
 use Rattle.ckr_desk_turn.specs.Queue.{AreNumbered}
+use Rattle.ckr_desk_turn.proofs.Queue.Events.{run_number}
 
 -- ---- no two running steps are of one run
 
@@ -134,7 +135,7 @@ module _ (layout : Layout) (tables : TablesModel) (rows : AllByRecursion IsAccep
       by-some (StartsAlone job step old new) (step_of_run row step) (λ owned. after_started row owned step items tables) tables owned found
       (λ starts.
       let after : TablesModel = after_started row owned step items tables in
-      let now = (row-next tables tables job row _ after.sets (row-as_is tables job row at) (row-number tables job row numbered at)).now in
+      let now = (row-next tables tables job row _ after.sets (row-as_is tables job row at) (run_number tables job row numbered at)).now in
       let new_one : HasNew job row.job.root owned (begun row.job.root owned) after.sets old new = starts _ owned now found in
       subst AreSingle (sym new_one.first)
       (subst (λ n. AllByRecursion (IsOfOther n) (without_run job old)) (sym new_one.run) (others-left job old), single-left job old single)))

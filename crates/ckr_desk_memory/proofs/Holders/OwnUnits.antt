@@ -33,7 +33,7 @@ use Rattle.ckr_desk_turn.specs.declared.plan.Plan.TheVariants.{Tell}
 use Rattle.ckr_desk_turn.specs.Codes.{initiator_of, running_reached}
 use Rattle.ckr_desk_turn.specs.Queue.{AreNumbered}
 use Rattle.ckr_desk_turn.proofs.Codes.{by-verdict}
-use Rattle.ckr_desk_memory.proofs.Holders.Moves.{row-number}
+use Rattle.ckr_desk_turn.proofs.Queue.Events.{run_number}
 use Rattle.ckr_desk_memory.proofs.Holders.Inquiries.{coded-plan}
 use Rattle.ckr_desk_memory.proofs.Holders.OwnEvents.{own-committed, own-follows, restarts-follow}
 use Rattle.ckr_desk_memory.proofs.Holders.Rewrites.{nothing-before}
@@ -107,7 +107,7 @@ module _ (layout : Layout) (tables : TablesModel) (on : RunningStepView) (ahead 
   by-told Q holds = subst Q (sym (told is.row is.owned is.row_at is.found)) holds
 
   number : is.row.number ≡ on.run
-  number = row-number tables on.run is.row numbered is.row_at
+  number = run_number tables on.run is.row numbered is.row_at
 
   lengths_of : HasOwnLengths tables moved (running_of tables moved).lengths
   lengths_of = λ row at. ap (λ (o : Option RunRow). option_map_or (lengths_of_row moved.sets.sets) o []) at

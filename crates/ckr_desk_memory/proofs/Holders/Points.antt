@@ -36,6 +36,7 @@ use Rattle.ckr_desk_memory.proofs.Continuations.{by-start}
 use Rattle.ckr_points_tables.specs.Invariant.{is_submission}
 use Rattle.ckr_volumes.specs.declared.layout.Layout.{Layout}
 use Rattle.ckr_desk_turn.specs.Queue.{AreNumbered}
+use Rattle.ckr_desk_turn.proofs.Queue.Events.{run_number}
 use Rattle.ckr_desk_memory.specs.EventChanges.{FirstEnters, HasEntered, check_name_in, is_of_run, is_point_of, point_of, points_behind, with_point, without_first}
 use Rattle.ckr_desk_memory.specs.Invariant.{IsAcceptedRow, IsPlacedRow, is_in_step}
 use Rattle.ckr_desk_memory.specs.OwnSets.{CommitsItsOwn, IsRunningOf}
@@ -44,7 +45,7 @@ use Rattle.ckr_desk_memory.specs.RunningSteps.{GoesOn}
 use Rattle.ckr_desk_memory.specs.View.{PointView, RunningStepView}
 use Rattle.ckr_desk_memory.proofs.Holders.Events.{by-some, others-stay}
 use Rattle.ckr_desk_memory.proofs.Holders.Submissions.{row-before}
-use Rattle.ckr_desk_memory.proofs.Holders.Moves.{HasRow, by-own, by-row, row-as_is, row-next, row-number}
+use Rattle.ckr_desk_memory.proofs.Holders.Moves.{HasRow, by-own, by-row, row-as_is, row-next}
 use Rattle.ckr_desk_memory.proofs.Invariant.{hand-in_step, idle-between, in_step-within, not-within, restarts-in_step, running-in_step}
 use Rattle.ckr_desk_memory.proofs.Queue.{held-is}
 use Rattle.ckr_desk_memory.proofs.Points.{other-point, own-with}
@@ -91,7 +92,7 @@ module _ (tables : TablesModel) (job : ℕ) where
 module _ (layout : Layout) (tables : TablesModel) (rows : AllByRecursion IsAcceptedRow tables.runs) (numbered : AreNumbered 1 tables.runs) (placed : AllByRecursion IsPlacedRow tables.runs) (points : List PointView) (known : HavePoints tables points) where
   module _ (job : ℕ) (row : RunRow) (at : run_of tables job ≡ Some row) where
     mine : row.number ≡ job
-    mine = row-number tables job row numbered at
+    mine = run_number tables job row numbered at
 
     as_is : HasRow tables tables job row
     as_is = row-as_is tables job row at
@@ -194,7 +195,7 @@ module _ (layout : Layout) (tables : TablesModel) (rows : AllByRecursion IsAccep
       → Gone job (after_start_continued (continued_row its.row its.other step its.point initiator tables.sets) its.owned step its.point tables)
   gone-continued job initiator before step its =
       let after : TablesModel = after_start_continued (continued_row its.row its.other step its.point initiator tables.sets) its.owned step its.point tables in
-      gone-row after job _ (row-next tables tables job its.row _ after.sets (row-as_is tables job its.row its.row_at) (row-number tables job its.row numbered its.row_at)).now (λ runs effect. false≢true runs)
+      gone-row after job _ (row-next tables tables job its.row _ after.sets (row-as_is tables job its.row its.row_at) (run_number tables job its.row numbered its.row_at)).now (λ runs effect. false≢true runs)
 
   -- ---- by its own run, and the others
 
@@ -311,7 +312,7 @@ module _ (layout : Layout) (tables : TablesModel) (rows : AllByRecursion IsAccep
       (tested-run tables job is_running follow
       (λ row at passes.
       by-row (Gone job) tables job (λ row. after_cancelled row tables) row at
-      (gone-row (after_cancelled row tables) job _ (row-next tables tables job row _ tables.sets (row-as_is tables job row at) (row-number tables job row numbered at)).now (λ runs effect. false≢true effect))))
+      (gone-row (after_cancelled row tables) job _ (row-next tables tables job row _ tables.sets (row-as_is tables job row at) (run_number tables job row numbered at)).now (λ runs effect. false≢true effect))))
   stay (StepEnded job step rc writes lengths) deck old new follow knows commits goes all =
       with-gone (StepEnded job step rc writes lengths) deck new refl follow
       (tested-run tables job (λ row. is_running row && step_in (place_of row) == step && lengths_follow tables row lengths.items) follow
@@ -354,7 +355,7 @@ module _ (layout : Layout) (tables : TablesModel) (rows : AllByRecursion IsAccep
       (tested-run tables job (is_in_state Queued) follow
       (λ row at passes.
       by-row (Gone job) tables job (λ row. with_run (record row { state = PurgedRun }) tables) row at
-      (gone-row (with_run (record row { state = PurgedRun }) tables) job _ (row-next tables tables job row _ tables.sets (row-as_is tables job row at) (row-number tables job row numbered at)).now (λ runs effect. false≢true runs))))
+      (gone-row (with_run (record row { state = PurgedRun }) tables) job _ (row-next tables tables job row _ tables.sets (row-as_is tables job row at) (run_number tables job row numbered at)).now (λ runs effect. false≢true runs))))
 
 -- the points that the jobs have to know they know behind an event
 pub points-stay : (layout : Layout) (tables : TablesModel) (event : Event) (deck : Option Job) (points : List PointView) (old new : List RunningStepView) → AllByRecursion IsAcceptedRow tables.runs → AreNumbered 1 tables.runs → AllByRecursion IsPlacedRow tables.runs

@@ -10,15 +10,13 @@ use Rattle.ckr_base.specs.declared.programs.Output.{Output}
 use Rattle.ckr_base.specs.declared.programs.Output.TheVariants.{InPlace, Main, Rejects}
 use Rattle.ckr_base.specs.declared.programs.Write.{Write}
 use Rattle.ckr_library.proofs.Named.{at-with_changed, name-same}
-use Rattle.ckr_library.specs.Catalog.{Catalog, HasSet, Holding}
+use Rattle.ckr_library.specs.Catalog.{Catalog, Holding}
 use Rattle.ckr_library.specs.NameMaps.{Name, Named, entry_at, same_name, with_changed}
 use Rattle.ckr_meaning.specs.Program.{OutputRoom, fitting, room_after, room_behind}
-use Rattle.ckr_steps.proofs.Growth.{is_longer, there_longer}
-use Rattle.ckr_steps.proofs.LaterWrites.{room_left}
-use Rattle.ckr_steps.proofs.Names.{set_there}
-use Rattle.ckr_steps.proofs.Rooms.{main_fits, rejects_fit, there_kept}
-use Rattle.ckr_steps.proofs.UnitWrites.{done_fits-for, end_there}
-use Rattle.ckr_steps.specs.Inputs.{AreStored, AreThere, IsSetThere}
+use Rattle.ckr_steps.proofs.LaterWrites.{room_left, there_grown}
+use Rattle.ckr_steps.proofs.Rooms.{main_fits, rejects_fit}
+use Rattle.ckr_steps.proofs.UnitWrites.{done_fits-for}
+use Rattle.ckr_steps.specs.Inputs.{AreStored, AreThere}
 use Rattle.ckr_steps.specs.StepUnit.{HasDone, done_for}
 use Rattle.ckr_steps.specs.Writes.{end_set, grown, grown_in, longer, room_at, room_of, room_of_set}
 use Rattle.ckr_steps.specs.declared.files.Files.{Files}
@@ -31,13 +29,6 @@ use Rattle.ckr_desk_memory.specs.View.{RunningStepView}
 pub stored-fit : (layout : Layout) (catalog : Catalog) → AreStored layout catalog → AllFit catalog.sets
 stored-fit layout catalog stored name held found =
     (stored.stands name held.set (ap (option_map (λ (h : Holding). h.set)) found)).length_fits
-
-there_behind : (files : Files) (old new : Catalog) (output : Output) → AreThere files old → new.sets ≡ grown_in (end_set files output) old.sets → AreThere files new
-there_behind files old new output there is = there_kept files old new (by (end_set files output) (end_there files old there output) is) there
-  where
-    by : (name : Option Name) → IsSetThere old name → new.sets ≡ grown_in name old.sets → (other : Name) → HasSet old other (λ _. Unit {0}) → HasSet new other (λ _. Unit {0})
-    by None at is other has = subst (λ sets. HasSet (record { sets = sets; room = 0; entry_rooms = [] }) other (λ _. Unit {0})) (sym is) has
-    by (Some name) at is other has = let found = set_there old name at in there_longer name found.0 old new (is_longer name found.0 old new found.1 is) other has
 
 -- a data set with room for a record more
 longer_fits : (sets : Named Holding) (name : Name) → AllFit sets → 0 < option_map_or room_of_set (option_map (λ (h : Holding). h.set) (entry_at sets name)) 0 → AllFit (with_changed name longer sets)
@@ -79,7 +70,7 @@ grown_fits files (write ∷ writes) old there fits are = by (room_behind write.o
     by None e are others = cc
     by (Some left) e are others =
         others (record { sets = grown_in (end_set files write.output) old.sets; room = 0; entry_rooms = [] })
-        (there_behind files old (record { sets = grown_in (end_set files write.output) old.sets; room = 0; entry_rooms = [] }) write.output there refl)
+        (there_grown files old (record { sets = grown_in (end_set files write.output) old.sets; room = 0; entry_rooms = [] }) write.output there refl)
         (one_fits files old (record { sets = grown_in (end_set files write.output) old.sets; room = 0; entry_rooms = [] }) write.output left there refl fits e)
         (ap (fitting writes) (sym (room_left files (write ∷ []) old (record { sets = grown_in (end_set files write.output) old.sets; room = 0; entry_rooms = [] }) left there refl (ap (option_and_then (room_after [])) e))) ∙ ap rest_of are)
 

@@ -33,7 +33,7 @@ use Rattle.ckr_desk_memory.proofs.Holders.Checkpoints.{check-behind, running-ent
 use Rattle.ckr_desk_memory.proofs.Holders.Continuations.{continued-goes}
 use Rattle.ckr_desk_memory.proofs.Holders.Events.{any-goes, by-some, holders-stay}
 use Rattle.ckr_desk_memory.proofs.Holders.Submissions.{row-more}
-use Rattle.ckr_desk_memory.proofs.Holders.Moves.{by-own, by-row, row-as_is, row-next, row-number}
+use Rattle.ckr_desk_memory.proofs.Holders.Moves.{by-own, by-row, row-as_is, row-next}
 use Rattle.ckr_desk_memory.proofs.Holders.OwnSets.{running-again, running-new, running-other, running-rewritten, running-same, running-served}
 use Rattle.ckr_desk_memory.proofs.Queue.{on-is}
 use Rattle.ckr_desk_memory.proofs.RunningSteps.Again.{again-cases, is-back}
@@ -45,11 +45,13 @@ use Rattle.ckr_desk_memory.specs.RunningSteps.{GoesOn, StepGoesBack, StepStarts}
 use Rattle.ckr_desk_memory.specs.Start.{HasNew}
 use Rattle.ckr_desk_memory.specs.View.{PointView, RunningStepView, begun}
 use Rattle.ckr_desk_turn.specs.Queue.{AreNumbered}
+use Rattle.ckr_desk_turn.proofs.Queue.Events.{run_number}
 use Rattle.ckr_desk_memory.specs.Holders.{AreHolders}
 use Rattle.ckr_desk_memory.specs.OwnSteps.{HavePoints, KnowsItsPoint}
 use Rattle.ckr_steps.specs.Units.{program_of}
 use Rattle.ckr_base.specs.declared.code.Code.{Code}
 use Rattle.ckr_desk_memory.specs.OwnSets.{AreUpTo, CommitsItsOwn, IsCommitted, IsCommittedWith, IsOfOther, IsRunningOf}
+use Rattle.ckr_desk_memory.proofs.RunningSteps.First.{all-without}
 
 -- ---- lists of running steps
 
@@ -66,15 +68,6 @@ module _ (P Q : RunningStepView → Type 0) where
   each-both : (C : RunningStepView → Type 0) (old : List RunningStepView) → ((on : RunningStepView) → P on → C on → Q on) → AllByRecursion P old → AllByRecursion C old → AllByRecursion Q old
   each-both C [] goes all also = tt
   each-both C (on ∷ rest) goes all also = (goes on all.0 also.0, each-both C rest goes all.1 also.1)
-
-each-without_first : (Q : RunningStepView → Type 0) (job : ℕ) (old : List RunningStepView) → AllByRecursion Q old → AllByRecursion Q (without_first job old)
-each-without_first Q job [] all = tt
-each-without_first Q job (on ∷ rest) all =
-    by (is_of_run job on) (each-without_first Q job rest all.1)
-  where
-    by : (b : Bool) → AllByRecursion Q (without_first job rest) → AllByRecursion Q (cond b rest (on ∷ without_first job rest))
-    by true others = all.1
-    by false others = (all.0, others)
 
 -- ---- each event
 
@@ -111,7 +104,7 @@ module _ (layout : Layout) (tables : TablesModel) (are : AreHolders tables) (row
   cancelled job deck on here is =
       by-row (λ after. IsRunningOf after on) tables job (λ row. after_cancelled row tables) is.row (its_row job on here is)
       (running-same tables (after_cancelled is.row tables) on is (record is.row { in_effect = None })
-      (row-next tables tables on.run is.row _ tables.sets (row-as_is tables on.run is.row is.row_at) (row-number tables on.run is.row numbered is.row_at)).now refl refl refl refl)
+      (row-next tables tables on.run is.row _ tables.sets (row-as_is tables on.run is.row is.row_at) (run_number tables on.run is.row numbered is.row_at)).now refl refl refl refl)
 
   served : (job : ℕ) (deck : Option Job) (old : List RunningStepView) → follows layout tables (Cancelled job) deck ≡ true → AllByRecursion (IsRunningOf tables) old → AllByRecursion (IsRunningOf (after_event (Cancelled job) deck tables)) (served_in job old)
   served job deck old follow all =
@@ -124,7 +117,7 @@ module _ (layout : Layout) (tables : TablesModel) (are : AreHolders tables) (row
       by None e = behind
       by (Some on) e = (
         running-served (after_event (Cancelled job) deck tables) on (find-holds (IsRunningOf (after_event (Cancelled job) deck tables)) (is_of_run job) old on behind e),
-        each-without_first (IsRunningOf (after_event (Cancelled job) deck tables)) job old behind,
+        all-without (IsRunningOf (after_event (Cancelled job) deck tables)) job old behind,
       )
 
   -- a step that starts stands before those of other runs
@@ -139,7 +132,7 @@ module _ (layout : Layout) (tables : TablesModel) (are : AreHolders tables) (row
       by-some (StartsWell job step old new) (step_of_run row step) (λ owned. after_started row owned step items tables) tables owned found
       (λ starts holders others.
       let after : TablesModel = after_started row owned step items tables in
-      let now = (row-next tables tables job row _ after.sets (row-as_is tables job row at) (row-number tables job row numbered at)).now in
+      let now = (row-next tables tables job row _ after.sets (row-as_is tables job row at) (run_number tables job row numbered at)).now in
       let new_one : HasNew job row.job.root owned (begun row.job.root owned) after.sets old new = starts _ owned now found in
       subst (AllByRecursion (IsRunningOf after)) (sym new_one.first) (
         running-new after job _ owned old new now (on-is row.state (and-first (is_in_state On row) _ follow)) refl found holders new_one,
@@ -150,7 +143,7 @@ module _ (layout : Layout) (tables : TablesModel) (are : AreHolders tables) (row
   rewritten job taken writes lengths place image deck follow on here is commits =
       by-row (λ after. IsRunningOf after on) tables job (λ row. by_step (λ owned step. after_rewritten row owned step writes lengths.items tables) row tables) is.row (its_row job on here is)
       (by-own (λ after. IsRunningOf after on) tables (λ owned step. after_rewritten is.row owned step writes lengths.items tables) is.row is.owned is.found
-      (running-rewritten tables on is writes lengths.items rows (row-number tables on.run is.row numbered is.row_at) (commits here is.row is.owned (its_row job on here is) is.found)))
+      (running-rewritten tables on is writes lengths.items rows (run_number tables on.run is.row numbered is.row_at) (commits here is.row is.owned (its_row job on here is) is.found)))
 
   -- ---- a checkpoint
 
@@ -181,7 +174,7 @@ module _ (layout : Layout) (tables : TablesModel) (are : AreHolders tables) (row
       at = its_row job on here is
 
       number : is.row.number ≡ on.run
-      number = row-number tables on.run is.row numbered is.row_at
+      number = run_number tables on.run is.row numbered is.row_at
 
       checks : is_checkpoint tables id lengths.items place bytes is.row is.owned ≡ true
       checks =
@@ -215,7 +208,7 @@ module _ (layout : Layout) (tables : TablesModel) (are : AreHolders tables) (row
       rest : AllByRecursion (IsRunningOf after) (without_first job old)
       rest =
           each-both (IsRunningOf tables) (IsRunningOf after) (IsOfOther job) (without_first job old) (λ on is apart. other-steps event deck refl follow on apart is)
-          (each-without_first (IsRunningOf tables) job old all) others
+          (all-without (IsRunningOf tables) job old all) others
 
       entered : (new : List RunningStepView) → HasEntered job (check_name_in after job) most old new → AllByRecursion (IsRunningOf after) new
       entered new = by (find (is_of_run job) old) refl

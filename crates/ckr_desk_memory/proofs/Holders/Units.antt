@@ -15,8 +15,6 @@ use Rattle.ckr_entry.specs.declared.point.State.TheVariants.{Matched, Plain}
 use Rattle.ckr_jcl.specs.declared.deck.Dd.{Dd}
 use Rattle.ckr_jcl.specs.Programs.{names_written}
 use Rattle.ckr_uses.specs.SetNames.{library_name}
-use Rattle.ckr_jcl.specs.declared.deck.Kind.{Kind}
-use Rattle.ckr_jcl.specs.declared.deck.Kind.TheVariants.{Br14, Copy, Master, Merge, Print, Select, Update}
 use Rattle.ckr_jcl.specs.declared.deck.Parm.{Parm}
 use Rattle.ckr_library.proofs.Named.{at-with_changed, at-with_changed-other, name-same}
 use Rattle.ckr_library.specs.Catalog.{Holding}
@@ -35,6 +33,7 @@ use Rattle.ckr_points.specs.Restart.{place_of, step_in}
 use Rattle.ckr_points.specs.Rows.{TableSet, TablesModel, run_of}
 use Rattle.ckr_points.specs.Tables.{is_updates, name_with_role}
 use Rattle.ckr_points_invariant.proofs.Writes.Roles.{is_right, target-among}
+use Rattle.ckr_points_invariant.proofs.Rewrite.Invariant.{update-is}
 use Rattle.ckr_points_library.specs.Commit.{output_names}
 use Rattle.ckr_programs.specs.Steps as plain_steps
 use Rattle.ckr_programs.specs.Records.{can_take}
@@ -120,15 +119,6 @@ grown_other files (write ∷ writes) sets name apart =
     ∙ grown-in_other (end_set files write.output) sets name (apart write.output)
 
 -- ---- UPDATE writes its rejects alone behind a last record
-
-pub update-is : (program : Kind) → is_update program ≡ true → program ≡ Update
-update-is Copy e = absurd (false≢true e)
-update-is Select e = absurd (false≢true e)
-update-is Merge e = absurd (false≢true e)
-update-is Master e = absurd (false≢true e)
-update-is Update e = refl
-update-is Print e = absurd (false≢true e)
-update-is Br14 e = absurd (false≢true e)
 
 module _ (run : ℕ) (owned : OwnedStep) (formed : is_formed_step run owned ≡ true) (updates : is_update owned.step.program ≡ true) where
   abbrev the_start : StepStart

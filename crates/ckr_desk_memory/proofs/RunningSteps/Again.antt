@@ -19,12 +19,13 @@ use Rattle.ckr_points.specs.Restart.{after_event, after_restarted, by_step, kept
 use Rattle.ckr_points.specs.Rows.{EffectPoint, RunRow, TablesModel, run_of, step_of_run}
 use Rattle.ckr_volumes.specs.declared.layout.Layout.{Layout}
 use Rattle.ckr_desk_turn.specs.Queue.{AreNumbered}
+use Rattle.ckr_desk_turn.proofs.Queue.Events.{run_number}
 use Rattle.ckr_desk_memory.specs.EventChanges.{is_point_of, without_run}
 use Rattle.ckr_desk_memory.specs.Invariant.{IsAnyPlaceOf, IsPlacedRow, is_in_step}
 use Rattle.ckr_desk_memory.specs.RunningSteps.{GoesFrom, StepGoesBack, may_go_back}
 use Rattle.ckr_desk_memory.specs.Start.{HasNew, has_sets}
 use Rattle.ckr_desk_memory.specs.View.{PointView, RunningStepView, resumed}
-use Rattle.ckr_desk_memory.proofs.Holders.Moves.{by-row, row-as_is, row-next, row-number}
+use Rattle.ckr_desk_memory.proofs.Holders.Moves.{by-row, row-as_is, row-next}
 use Rattle.ckr_desk_memory.proofs.Invariant.{in_step-within, restarts-in_step}
 use Rattle.ckr_desk_memory.proofs.Queue.{on-is, run-there}
 use Rattle.ckr_desk_memory.proofs.Runs.{by-step}
@@ -104,7 +105,7 @@ is-back layout tables job initiator code deck numbered placed follow =
       inside = inside;
       effect = effect;
       was = owned.1;
-      next_at = (row-next tables tables job row _ (put_back entry.point.marks (output_names row.job.root own) (names_of row.job.root own) tables.sets) (row-as_is tables job row there.1) (row-number tables job row numbered there.1)).now;
+      next_at = (row-next tables tables job row _ (put_back entry.point.marks (output_names row.job.root own) (names_of row.job.root own) tables.sets) (row-as_is tables job row there.1) (run_number tables job row numbered there.1)).now;
       within = refl;
       found = owned.1;
       job_is = refl;

@@ -23,7 +23,8 @@ use Rattle.ckr_points_invariant.proofs.PutBack.Sets.{put_back-laid}
 use Rattle.ckr_volumes.specs.declared.layout.Layout.{Layout}
 use Rattle.ckr_desk_turn.proofs.AdmittedSteps.{spliced-here, spliced-steps}
 use Rattle.ckr_desk_turn.specs.Queue.{AreNumbered}
-use Rattle.ckr_desk_memory.proofs.Holders.Moves.{HasRow, row-as_is, row-next, row-number}
+use Rattle.ckr_desk_turn.proofs.Queue.Events.{run_number}
+use Rattle.ckr_desk_memory.proofs.Holders.Moves.{HasRow, row-as_is, row-next}
 use Rattle.ckr_desk_memory.proofs.Starts.Steps.{row-among}
 use Rattle.ckr_desk_memory.specs.Holders.{reached_names}
 use Rattle.ckr_desk_memory.specs.Invariant.{IsAcceptedRow}
@@ -63,7 +64,7 @@ accepted_then layout tables job initiator earlier step id its next deck steps ro
 
 module _ (layout : Layout) (tables : TablesModel) (job initiator before step : ℕ) (id : Name) (numbered : AreNumbered 1 tables.runs) (its : MayContinue layout tables job initiator (suc before) step (Some id)) where
   number : its.row.number ≡ job
-  number = row-number tables job its.row numbered its.row_at
+  number = run_number tables job its.row numbered its.row_at
 
   abbrev first : RunRow
   first = continued_row its.row its.other step its.point initiator tables.sets

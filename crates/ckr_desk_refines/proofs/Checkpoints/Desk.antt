@@ -28,7 +28,7 @@ use Rattle.ckr_volumes.specs.declared.layout.Layout.{Layout}
 use Rattle.ckr_volumes.specs.Layouts.{StandsIn}
 use Rattle.ckr_desk_memory.specs.EventChanges.{FirstEnters, IsEntered, check_name, check_name_in, has_space, is_of_run, without_first}
 use Rattle.ckr_desk_memory.specs.View.{JobsView, RunningStepView}
-use Rattle.ckr_desk_turn.proofs.Checkpoints.Events.{check-among, check-named, kept-behind, may-come}
+use Rattle.ckr_desk_turn.proofs.Checkpoints.Events.{check-among, check-named, kept-behind, may-come, check-dd}
 use Rattle.ckr_desk_turn.proofs.NextEvents.WithinStep.{by-step}
 use Rattle.ckr_desk_turn.proofs.Opening.{has-runs}
 use Rattle.ckr_desk_turn.proofs.RunningSteps.{going-within}
@@ -41,7 +41,7 @@ use Rattle.ckr_desk_refines.specs.Commits.{HasCommitted, HasWithin, HasWithinRun
 use Rattle.ckr_desk_refines.specs.Moves.{HasSameRecords, HaveMoved}
 use Rattle.ckr_desk_refines.specs.Standing.{AllStand, PointsStand, StandsForDesk, StandsForStep}
 use Rattle.ckr_desk_refines.proofs.Checkpoints.Images.{keeps-outside}
-use Rattle.ckr_desk_refines.proofs.Checkpoints.Office.{end, its-dd, leaves, leaves-others, may, office_then, row-then}
+use Rattle.ckr_desk_refines.proofs.Checkpoints.Office.{end, leaves, leaves-others, may, office_then, row-then}
 use Rattle.ckr_desk_refines.proofs.Checkpoints.OwnStep.{own-stands}
 use Rattle.ckr_desk_refines.proofs.Checkpoints.Points.{points-written}
 use Rattle.ckr_desk_refines.proofs.Checkpoints.Turn.{due-so, its-step, none, numbered, pair, taken-by, taken-kept, unclosed, uncoded}
@@ -52,9 +52,9 @@ use Rattle.ckr_desk_refines.proofs.Entries.RunningStep.{checkpoint-checks}
 use Rattle.ckr_desk_refines.proofs.Events.OtherSteps.{step-stands, still-stands}
 use Rattle.ckr_desk_refines.proofs.Rewrites.OwnStep.{shown-again}
 use Rattle.ckr_desk_refines.proofs.Standing.StepViews.{place-due}
-use Rattle.ckr_desk_refines.proofs.Rewrites.StepLists.{others-stand}
+use Rattle.ckr_desk_refines.proofs.Rewrites.StepLists.{others-stand, put-differ}
 use Rattle.ckr_desk_refines.proofs.Units.OtherSteps.{fits-so, other-stays, same-start}
-use Rattle.ckr_desk_refines.proofs.Units.StepLists.{IsPair, differ-put}
+use Rattle.ckr_desk_refines.proofs.Units.StepLists.{IsPair}
 
 -- a data set that is there has the space
 space-there : (most : ℕ) (set : DataSet) (entry : Option Holding) → option_map (λ (held : Holding). held.set) entry ≡ Some set → most ≤ set.space → option_map_or (λ (held : Holding). nat_le most held.set.space) entry false ≡ true
@@ -98,7 +98,7 @@ module _ (layout : Layout) (old : JobsView) (before : List ℕ) (desk : DeskMode
     among : is_among (names_of p.stands.start.root p.stands.start.owned) behind.name ≡ true
     among =
         ap (λ (s : StepStart). is_among (names_of s.root s.owned) behind.name) (sym starts_same)
-        ∙ outputs-among p.going.start.root p.going.start.owned behind.name (check-among p.going.start behind.name (its-dd p.going.start behind.name check_is))
+        ∙ outputs-among p.going.start.root p.going.start.owned behind.name (check-among p.going.start behind.name (check-dd p.going.start behind.name check_is))
 
     -- what the running steps have written stays
     pub keeps-from : behind.table.set.content ≡ Checkpoints → Keeps desk.layout on.sets from image
@@ -150,7 +150,7 @@ module _ (layout : Layout) (old : JobsView) (before : List ℕ) (desk : DeskMode
         let named : name_with_role p.going.row.job.root owned is_checkpoints ≡ check =
         ap (λ (j : Effective). name_with_role j.root owned is_checkpoints) (sym job)
         ∙ ap (λ (s : StepStart). name_with_role s.root s.owned is_checkpoints) (sym starts)
-        ∙ check-named p.going.start check (its-dd p.going.start check check_is) in
+        ∙ check-named p.going.start check (check-dd p.going.start check check_is) in
         checkpoint-checks desk.layout desk.office is.kept.events p.going.row.number p.step.progress.taken p.step.progress.writes (entry_place sets p.going.start) (entry_bytes sets p.going.row p.going.start p.step.progress)
         (next_id p.going.row p.going.start) (record { items = lengths_with sets p.going.start p.step.progress.writes (end desk is p.step p.going no_code open_yet fits) }) None comes.may
         (has-check-dd desk.layout desk.office is.kept (has-runs desk is) p.going.row.number p.step.progress.taken p.step.progress.writes (entry_place sets p.going.start) (entry_bytes sets p.going.row p.going.start p.step.progress)
@@ -289,7 +289,7 @@ module _ (layout : Layout) (old new : JobsView) (before written after : List ℕ
             tables = tables_now;
             failed = moved.failed ∙ to.stands.failed;
             running = subst (λ (seen : List RunningStepView). AllStand desk.layout now after seen (own ∷ without_run its.going.row.number desk.running)) (sym entered.1) (all-then entered.0 entered.2);
-            differ_so = differ-put own desk.running to.stands.differ_so;
+            differ_so = put-differ own desk.running to.stands.differ_so;
             points =
                 subst (PointsStand now) (sym moved.points)
                 (points-written desk to.stands.is_desk its.step its.going goes_uncoded goes_open fits behind.name named after entered.0 (without_first its.going.row.number old.running) new.running its.going.row.number

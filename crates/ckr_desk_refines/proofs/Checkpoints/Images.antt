@@ -17,7 +17,7 @@ use Rattle.ckr_volumes.specs.Lists.{same_records}
 use Rattle.ckr_volumes.specs.Records.{records_on}
 use Rattle.ckr_volumes.specs.SamePlaces.{SamePlaces, same_places}
 use Rattle.ckr_desk_refines.specs.StepSets.{HasSets, LiesThere}
-use Rattle.ckr_desk_refines.proofs.Rewrites.Legs.{apart-there}
+use Rattle.ckr_desk_refines.proofs.Durable.Units.{apart-there}
 
 module _ (layout : Layout) (tables : Named TableSet) (laid : AreLaidOut layout tables) (names : List Name) (sets : Catalog) (has : HasSets tables names sets)
     (spaced : (name : Name) (set : DataSet) → set_of sets name ≡ Some set → set.length ≤ set.space)

@@ -1,15 +1,14 @@
 -- The office behind the event of a checkpoint: the rows and data sets of other runs, the row of its run, and the lengths that it commits.
 use Rattle.std.proofs.Common.{◌≡◌, ◌≢◌, ℕ, Bool, true, false, ◌||◌, List, [], ◌∷◌, map, refl, ap, sym, ◌∙◌, subst, Some, None}
-use Rattle.std.specs.Prelude.{◌==◌, find, if◌then◌else◌, option_and_then}
+use Rattle.std.specs.Prelude.{◌==◌, if◌then◌else◌}
 use Rattle.std.proofs.lemmas.Bool.{false≢true}
 use Rattle.std.proofs.lemmas.Option.{same_Some}
 use Rattle.ckr_base.proofs.Bools.{bool-cases}
 use Rattle.ckr_base.proofs.Numbers.{equal-itself}
-use Rattle.ckr_base.proofs.Options.{option-cases, some-not-none}
 use Rattle.ckr_library.specs.declared.sets.DataSet.{DataSet}
 use Rattle.ckr_library.specs.NameMaps.{Name, Named, entry_at, same_name}
 use Rattle.ckr_library.proofs.Named.{name-same, name-turned}
-use Rattle.ckr_meaning.specs.EffectiveJob.{Effective, OwnedStep, is_among, name_of, names_of}
+use Rattle.ckr_meaning.specs.EffectiveJob.{Effective, OwnedStep, is_among, names_of}
 use Rattle.ckr_meaning.specs.StepRun.{StepStart, within_at}
 use Rattle.ckr_points_library.specs.Commit.{output_names}
 use Rattle.ckr_points.specs.Follows.{is_length_of}
@@ -21,8 +20,8 @@ use Rattle.ckr_points_invariant.proofs.Holders.Rows.{run-other}
 use Rattle.ckr_points_invariant.proofs.Writes.Likeness.{committed-other}
 use Rattle.ckr_uses.specs.Uses.{are_distinct}
 use Rattle.ckr_desk_memory.specs.EventChanges.{check_name}
-use Rattle.ckr_desk_turn.proofs.Checkpoints.Events.{IsCheckDd, behind-by, committed_now, may-come, next_row, row-now}
-use Rattle.ckr_desk_turn.specs.Checkpoints.{MayCheckpoint, check_set, checkpoint_fits, entry_bytes, entry_end, entry_place, is_check_set, lengths_with, next_id, office_behind}
+use Rattle.ckr_desk_turn.proofs.Checkpoints.Events.{behind-by, committed_now, may-come, next_row, row-now}
+use Rattle.ckr_desk_turn.specs.Checkpoints.{MayCheckpoint, checkpoint_fits, entry_bytes, entry_end, entry_place, is_check_set, lengths_with, next_id, office_behind}
 use Rattle.ckr_desk_turn.specs.Desk.{DeskModel, DeskStep, start_of}
 use Rattle.ckr_desk_turn.specs.Invariant.{IsDesk, IsGoing}
 use Rattle.ckr_desk_refines.specs.SharedSets.{LeavesOthers, LieStill}
@@ -43,13 +42,6 @@ length-mapped length (first ∷ names) name among =
     (λ apart.
     ap (λ (b : Bool). if b then length first == length name else is_length_of name (length name) names (map length names)) apart
     ∙ length-mapped length names name (sym (ap (λ b. b || is_among names name) (name-turned name first ∙ apart)) ∙ among))
-
--- the DD for checkpoints of a step, and its name
-pub its-dd : (start : StepStart) (set : Name) → check_set start ≡ Some set → IsCheckDd start set
-its-dd start set is =
-    option-cases (find (λ one. is_checkpoints one.role) start.owned.step.dds)
-    (λ none. absurd (some-not-none set (sym is ∙ ap (option_and_then (name_of start.root start.owned)) none)))
-    (λ dd at. record { dd = dd; at = at; has = sym (ap (option_and_then (name_of start.root start.owned)) at) ∙ is })
 
 module _ (desk : DeskModel) (is : IsDesk desk) (step : DeskStep) (going : IsGoing desk.office step) (uncoded : step.code ≡ None) (unclosed : step.progress.closed ≡ false) (fits : checkpoint_fits desk.office.tables.sets going.row going.start step.progress ≡ true) where
   abbrev pub may : MayCheckpoint desk.layout desk.office step

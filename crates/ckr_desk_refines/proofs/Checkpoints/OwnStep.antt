@@ -28,23 +28,21 @@ use Rattle.ckr_steps.specs.Units.{AreServed, due_of, is_cancelled, served_of}
 use Rattle.ckr_steps.specs.Writes.{IsShown, room_at, room_of, room_of_set}
 use Rattle.ckr_uses.specs.Uses.{are_distinct}
 use Rattle.ckr_desk_memory.specs.View.{RunningStepView}
-use Rattle.ckr_desk_turn.proofs.Checkpoints.Events.{check-among}
+use Rattle.ckr_desk_turn.proofs.Checkpoints.Events.{check-among, check-dd}
 use Rattle.ckr_desk_turn.specs.Checkpoints.{check_set, checkpoint_fits, is_check_set}
 use Rattle.ckr_desk_turn.specs.Desk.{DeskModel, DeskStep, checkpoint_done}
 use Rattle.ckr_desk_turn.specs.Invariant.{IsDesk, IsGoing}
 use Rattle.ckr_desk_refines.specs.SharedSets.{LieStill, LiesStill}
 use Rattle.ckr_desk_refines.specs.Standing.{StandsForStep}
 use Rattle.ckr_desk_refines.specs.StepSets.{HasSets, LiesThere}
-use Rattle.ckr_desk_refines.proofs.Checkpoints.Office.{HasLength, end, its-dd, lengths-then, lie-still, office_then, row-then}
+use Rattle.ckr_desk_refines.proofs.Checkpoints.Office.{HasLength, end, lengths-then, lie-still, office_then, row-then}
 use Rattle.ckr_desk_refines.proofs.Checkpoints.OwnSets.{IsBehind, now-of, other-of, was-of}
 use Rattle.ckr_desk_refines.proofs.Checkpoints.Progress.{own-length}
 use Rattle.ckr_desk_refines.proofs.Standing.Lengths.{in-sets}
 use Rattle.ckr_desk_refines.proofs.Standing.Served.{checkpoint-once}
 use Rattle.ckr_desk_refines.proofs.Units.Contents.{content_at, made-content, within-content}
 use Rattle.ckr_desk_refines.proofs.Units.OtherSteps.{same-start}
-
-not-plain : Plain ≡ Checkpoints → ⊥
-not-plain e = cc
+use Rattle.ckr_desk_refines.proofs.Entries.Checkpoint.{plain-checks}
 
 module _ (desk : DeskModel) (is : IsDesk desk) (image : List ℕ) (on moved : RunningStepView) (step : DeskStep) (going : IsGoing desk.office step) (stands : StandsForStep desk.layout desk.office image on step)
     (uncoded : step.code ≡ None) (unclosed : step.progress.closed ≡ false) (fits : checkpoint_fits desk.office.tables.sets going.row going.start step.progress ≡ true) (due : due_of on.step.parm on.step.state ≡ Checkpoint)
@@ -86,7 +84,7 @@ module _ (desk : DeskModel) (is : IsDesk desk) (image : List ℕ) (on moved : Ru
   is-check name = ap (λ (o : Option Name). option_map_or (same_name name) o false) check_is
 
   check_output : is_among (output_names going.start.root going.start.owned) check ≡ true
-  check_output = check-among going.start check (its-dd going.start check check_is)
+  check_output = check-among going.start check (check-dd going.start check check_is)
 
   -- it ends with the entry, in memory and in the tables
   both-end : (name : Name) (table : TableSet) (old set : DataSet) → same_name name check ≡ true → entry_at later.tables.sets name ≡ Some table → set_of on.sets name ≡ Some old → IsBehind check most name old set → table.set.length ≡ set.length
@@ -153,7 +151,7 @@ module _ (desk : DeskModel) (is : IsDesk desk) (image : List ℕ) (on moved : Ru
       let made : content_at (made_at stands.start) check ≡ Some its.set.content =
       subst (λ (s : StepStart). content_at (made_at s) check ≡ Some its.set.content) starts_same
       (made-content desk is step going check its (outputs-among going.start.root going.start.owned check check_output) its_at) in
-      absurd (not-plain (same_Some Plain Checkpoints (sym plain ∙ ap (content_at (made_at stands.start)) (name-same name check one) ∙ made ∙ ap Some its_content))))
+      absurd (plain-checks (same_Some Plain Checkpoints (sym plain ∙ ap (content_at (made_at stands.start)) (name-same name check one) ∙ made ∙ ap Some its_content))))
       (λ apart. apart)
 
   shown-plain : (name : Name) (model : LibrarySet) → entry_at (within_at stands.start step.progress.writes) name ≡ Some model → model.content ≡ Plain → content_at (made_at stands.start) name ≡ Some Plain

@@ -17,13 +17,13 @@ use Rattle.ckr_points.specs.Tables.{is_checkpoints, name_with_role}
 use Rattle.ckr_desk_memory.specs.EventChanges.{is_of_run, is_point_of, point_of, with_point}
 use Rattle.ckr_desk_memory.specs.View.{PointView, RunningStepView}
 use Rattle.ckr_desk_memory.proofs.Points.{other-point, own-with}
-use Rattle.ckr_desk_turn.proofs.Checkpoints.Events.{behind-by, check-named, kept-so, next_row, row-now}
+use Rattle.ckr_desk_turn.proofs.Checkpoints.Events.{behind-by, check-named, kept-so, next_row, row-now, check-dd}
 use Rattle.ckr_desk_turn.specs.Checkpoints.{check_set, checkpoint_fits, entry_with, next_id, written_entry}
 use Rattle.ckr_desk_turn.specs.Desk.{DeskModel, DeskStep, checkpoint_done, start_of}
 use Rattle.ckr_desk_turn.specs.Invariant.{IsDesk, IsGoing}
 use Rattle.ckr_desk_turn.specs.Jobs.{effect_entry}
 use Rattle.ckr_desk_refines.specs.Standing.{OwnStands, PointsStand, StandsForStep}
-use Rattle.ckr_desk_refines.proofs.Checkpoints.Office.{its-dd, leaves, leaves-others, may, office_then}
+use Rattle.ckr_desk_refines.proofs.Checkpoints.Office.{leaves, leaves-others, may, office_then}
 use Rattle.ckr_desk_refines.proofs.Standing.Points.{entry_in_effect, points-next}
 
 -- the entry of which a whole entry is made tells its records taken and its writes
@@ -61,7 +61,7 @@ module _ (desk : DeskModel) (is : IsDesk desk) (step : DeskStep) (going : IsGoin
         got = refl;
         set = ap (λ (j : Effective). name_with_role j.root owned is_checkpoints) (sym job)
             ∙ ap (λ (s : StepStart). name_with_role s.root s.owned is_checkpoints) (sym same)
-            ∙ check-named going.start check (its-dd going.start check check_is);
+            ∙ check-named going.start check (check-dd going.start check check_is);
         id = refl;
         starts = going.start_at;
       })

@@ -13,7 +13,8 @@ use Rattle.ckr_desk_refines.specs.Standing.{AllStand, PointsStand, StandsForDesk
 use Rattle.ckr_desk_refines.specs.Unit.{HasPassed}
 use Rattle.ckr_desk_refines.proofs.Checkpoints.Turn.{due-so, none, numbered, pair, taken-by, taken-kept}
 use Rattle.ckr_desk_refines.proofs.Standing.Served.{checkpoint-stands, served-first}
-use Rattle.ckr_desk_refines.proofs.Units.StepLists.{IsPair, differ-put, others-stay}
+use Rattle.ckr_desk_refines.proofs.Units.StepLists.{IsPair, others-stay}
+use Rattle.ckr_desk_refines.proofs.Rewrites.StepLists.{put-differ}
 
 module _ (layout : Layout) (old new : JobsView) (image : List ℕ) (desk : DeskModel) (turn : MountedTurn) (run : ℕ) (on : RunningStepView) (to : IsToTake layout old image desk turn run on) where
   abbrev its : IsPair desk.layout desk.office image run on desk.running
@@ -46,7 +47,7 @@ module _ (layout : Layout) (old new : JobsView) (image : List ℕ) (desk : DeskM
         running =
             subst (λ (seen : List RunningStepView). AllStand desk.layout desk.office image seen (own ∷ without_run its.going.row.number desk.running)) (sym (passed.running ∙ served-first run on old.running to.found))
             (own-stands, rest);
-        differ_so = differ-put own desk.running to.stands.differ_so;
+        differ_so = put-differ own desk.running to.stands.differ_so;
         points = subst (PointsStand desk.office) (sym passed.points) to.stands.points;
         committed = to.stands.committed;
       })

@@ -14,7 +14,7 @@ use Rattle.ckr_meaning.specs.EffectiveJob.{Effective, OwnedStep, is_among, names
 use Rattle.ckr_meaning.proofs.Fronts.{begin-step}
 use Rattle.ckr_points_library.specs.Commit.{output_names}
 use Rattle.ckr_points.specs.Marks.{deck_names, is_marked_absent, lost_names, mark_at, own_names, removed_all, sysout_names}
-use Rattle.ckr_points.specs.Office.{Leg, Office, continued_leg, is_holder, leg_by, leg_of, office_after, office_selected, plain_leg, with_leg}
+use Rattle.ckr_points.specs.Office.{Leg, Office, is_holder, leg_by, leg_of, office_after, office_selected, with_leg}
 use Rattle.ckr_points.specs.Restart.{Back, after_continued_at, after_entry_continued, after_event, after_put_back, continued_row, deferred_entry, deferred_start, kept_at, needed_names, sets_back, spliced, step_in, syschk_name}
 use Rattle.ckr_points.specs.Rows.{EffectPoint, KeptEntry, RunRow, TableSet, TablesModel, run_of}
 use Rattle.ckr_points.specs.Tables.{fresh_effect}
@@ -37,17 +37,9 @@ use Rattle.ckr_desk_refines.proofs.Durable.Events.{all-stay}
 use Rattle.ckr_desk_refines.proofs.Durable.Restart.{back-from}
 use Rattle.ckr_desk_refines.proofs.Durable.Stamps.{LegsStay}
 use Rattle.ckr_desk_refines.proofs.Durable.StepEnd.{StaysFrom}
+use Rattle.ckr_desk_turn.proofs.Deferred.Desks.{leg-number}
 
 -- ---- the legs behind a selection
-
--- the leg is one of the run
-leg-number : (now : Office) (row : RunRow) (earlier : ℕ) → (leg_by now row earlier).number ≡ row.number
-leg-number now row zero = refl
-leg-number now row (suc before) = by (leg_of now (suc before))
-  where
-    by : (earlier : Option Leg) → (option_map_or (continued_leg now row) earlier (plain_leg now row)).number ≡ row.number
-    by None = refl
-    by (Some leg) = refl
 
 -- other runs keep theirs
 pub legs-apart : (now : Office) (tables : TablesModel) (job : ℕ) → ((row : RunRow) → run_of tables job ≡ Some row → row.number ≡ job) → (run : ℕ) → run ≢ job → leg_of (office_selected now job tables) run ≡ leg_of now run

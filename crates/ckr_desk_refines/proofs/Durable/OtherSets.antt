@@ -1,40 +1,39 @@
 -- What a run leaves of a data set that it doesn't reach, or that its job shares: SHR, with KEEP at both ends.
-use Rattle.std.proofs.Common.{◌≡◌, ◌≢◌, ◌≤◌, ◌⊎◌, inl, inr, ℕ, Bool, true, false, cond, not, ◌&&◌, ◌||◌, List, [], ◌∷◌, filter, refl, ap, sym, ◌∙◌, subst, Option, Some, None, arith}
+use Rattle.std.proofs.Common.{◌≡◌, ◌≢◌, ◌≤◌, ◌⊎◌, inl, inr, ℕ, Bool, true, false, not, ◌&&◌, ◌||◌, List, [], ◌∷◌, refl, ap, sym, ◌∙◌, subst, Option, Some, None, arith}
 use Rattle.std.specs.List.{AllByRecursion, cons_option, filter_map, list_all}
 use Rattle.std.specs.Option.{option_map_or}
-use Rattle.std.proofs.lemmas.Bool.{false≢true, or_from, or_parts}
-use Rattle.ckr_base.proofs.Bools.{and-first, and-second, bool-cases, if-then}
+use Rattle.std.proofs.lemmas.Bool.{false≢true, or_parts}
+use Rattle.ckr_base.proofs.Bools.{bool-cases}
 use Rattle.ckr_points_library.specs.Commit.{output_names}
 use Rattle.ckr_uses.specs.Uses.{is_shared, leaves}
 use Rattle.ckr_events.specs.declared.event.Made.{Made}
 use Rattle.ckr_jcl.specs.declared.deck.Dd.{Dd}
-use Rattle.ckr_library.specs.declared.sets.Stamp.{Stamp}
-use Rattle.ckr_library.specs.NameMaps.{Name, Named, same_name, entry_at}
-use Rattle.ckr_library.proofs.Named.{at-with_entry}
-use Rattle.ckr_meaning.specs.Allotments.{AllotmentModel, found, made, refused, DdAllotment, is_made, is_output, opened_all}
+use Rattle.ckr_library.specs.NameMaps.{Name, same_name, entry_at}
+use Rattle.ckr_meaning.specs.Allotments.{found, made, DdAllotment, opened_all}
 use Rattle.ckr_meaning.specs.Dispositions.{disposed_all}
 use Rattle.ckr_meaning.specs.EffectiveJob.{Effective, OwnedStep, disposals_of, is_among, name_of, names_of, placed_in, stamp_of, step_at}
 use Rattle.ckr_meaning.specs.declared.place.Place.{Place}
 use Rattle.ckr_meaning.specs.declared.place.Place.TheVariants.{Before, Opened, Within}
 use Rattle.ckr_meaning.specs.JobRun.{walk_before}
 use Rattle.ckr_meaning.specs.StepRun.{StepStart, placed_at}
-use Rattle.ckr_points.specs.Tables.{after_dispositions, after_started, committed, fresh_table, made_table, made_tables, parts_from}
-use Rattle.ckr_points.specs.Payload.{has_role, is_formed_step}
+use Rattle.ckr_points.specs.Tables.{after_dispositions, after_started, committed, made_tables}
+use Rattle.ckr_points.specs.Payload.{is_formed_step}
 use Rattle.ckr_points.specs.Office.{Leg, Office, passed_made}
 use Rattle.ckr_points.specs.Restart.{after_abnormal, after_passed_ended, place_of}
-use Rattle.ckr_points.specs.Rows.{RunRow, TableSet, standing_of, step_of_run, table_ways}
+use Rattle.ckr_points.specs.Rows.{RunRow, standing_of, step_of_run, table_ways}
 use Rattle.ckr_points_invariant.specs.Invariant.{IsAgreed, IsAtPlace, IsHolder, Leaves, leaves_dd, step_now}
 use Rattle.ckr_points_invariant.specs.RunningSteps.{IsRunning, its_start}
 use Rattle.ckr_points_invariant.proofs.Steps.Commits.{found_leg, now}
 use Rattle.ckr_points_invariant.proofs.StepEnd.Invariant.{disposals_are, disposed-enters}
 use Rattle.ckr_points_invariant.proofs.Holders.Rows.{step-all}
-use Rattle.ckr_points_invariant.proofs.Holders.SharedSets.{LeavesStep, Unmade, Untouched, before_keeps, disposed_all-left, no_output, opened_all-left, placed_at-left, shared_role, step_left, unmade_all, unmade_left, untouched_all}
+use Rattle.ckr_points_invariant.proofs.Holders.SharedSets.{LeavesStep, Untouched, before_keeps, disposed_all-left, opened_all-left, placed_at-left, step_left, unmade_all, unmade_left, untouched_all}
 use Rattle.ckr_points_invariant.proofs.Holders.Moves.{Among}
 use Rattle.ckr_points_invariant.proofs.Library.PassedList.{disposed-made, ended-stays}
-use Rattle.ckr_points_invariant.proofs.Writes.Roles.{formed-roles}
 use Rattle.ckr_points_invariant.proofs.Start.Invariant as starting
 use Rattle.ckr_points_invariant.proofs.Start.Event.{StartsNow}
 use Rattle.ckr_points_invariant.proofs.Writes.Likeness.{committed-other}
+use Rattle.ckr_points_invariant.proofs.OtherRuns.Outputs.{not-output}
+use Rattle.ckr_points_invariant.proofs.Readiness.Starts.{made_tables-left}
 use Rattle.ckr_volumes.specs.declared.layout.Layout.{Layout}
 
 -- a name that a run doesn't reach, or that its job shares
@@ -61,51 +60,6 @@ without_leaves root owned (dd ∷ dds) name out =
     by rest (Some other) out =
         let parts = or_parts (same_name name other) _ out in
         ap (λ b. (not b || is_shared dd) && list_all (leaves_dd root owned name) dds) parts.0 ∙ rest parts.1
-
--- what a step leaves is none of its outputs
-dds_output : (root : ℕ) (owned : OwnedStep) (dds : List Dd) (name : Name) → list_all (has_role owned.step.program) dds ≡ true → list_all (leaves_dd root owned name) dds ≡ true → is_among (filter_map (name_of root owned) (filter (λ dd. is_output dd.role) dds)) name ≡ false
-dds_output root owned [] name has left = refl
-dds_output root owned (dd ∷ dds) name has left =
-    chosen_names (is_output dd.role)
-    ∙ by (is_output dd.role) refl (name_of root owned dd) (and-first (leaves_dd root owned name dd) _ left)
-    (dds_output root owned dds name (and-second (has_role owned.step.program dd) _ has) (and-second (leaves_dd root owned name dd) _ left))
-  where
-    chosen_names : (output : Bool) → is_among (filter_map (name_of root owned) (cond output (dd ∷ filter (λ dd. is_output dd.role) dds) (filter (λ dd. is_output dd.role) dds))) name ≡ is_among (cond output (cons_option (name_of root owned dd) (filter_map (name_of root owned) (filter (λ dd. is_output dd.role) dds))) (filter_map (name_of root owned) (filter (λ dd. is_output dd.role) dds))) name
-    chosen_names true = refl
-    chosen_names false = refl
-
-    by : (output : Bool) → is_output dd.role ≡ output → (other : Option Name) → leaves name other (is_shared dd) ≡ true → is_among (filter_map (name_of root owned) (filter (λ dd. is_output dd.role) dds)) name ≡ false
-        → is_among (cond output (cons_option other (filter_map (name_of root owned) (filter (λ dd. is_output dd.role) dds))) (filter_map (name_of root owned) (filter (λ dd. is_output dd.role) dds))) name ≡ false
-    by true output None leaves others = others
-    by true output (Some other) leaves others =
-        or_from (same_name name other) _
-        (bool-cases (same_name name other)
-        (λ same.
-        absurd (false≢true (
-        sym (no_output dd.role (shared_role owned.step.program dd (and-first (has_role owned.step.program dd) _ has) (if-then (same_name name other) (is_shared dd) leaves same)))
-        ∙ output)))
-        (λ e. e))
-        others
-    by false output other leaves others = others
-
-pub not-output : (root : ℕ) (owned : OwnedStep) (name : Name) → LeavesStep name root owned → is_among (output_names root owned) name ≡ false
-not-output root owned name left = dds_output root owned owned.step.dds name (formed-roles root owned left.formed) left.leaves
-
--- what a step makes, of the tables
-made_left : (stamp : Stamp) (items : List Made) (placed : DdAllotment) (allotment : AllotmentModel) (sets : Named TableSet) (name : Name) → (same_name name placed.name ≡ true → is_made allotment ≡ false) → entry_at (made_table stamp items placed allotment sets) name ≡ entry_at sets name
-made_left stamp items placed found sets name unless = refl
-made_left stamp items placed made sets name unless =
-    bool-cases (same_name name placed.name) (λ same. absurd (false≢true (sym (unless same))))
-    (λ apart.
-    at-with_entry placed.name name (fresh_table stamp placed (parts_from placed.number items)) sets
-    ∙ ap (λ b. cond b (Some (fresh_table stamp placed (parts_from placed.number items))) (entry_at sets name)) apart)
-made_left stamp items placed (refused flaw) sets name unless = refl
-
-made_tables-left : (stamp : Stamp) (items : List Made) (all : List DdAllotment) (sets : Named TableSet) (name : Name) → AllByRecursion (Unmade name) all → entry_at (made_tables stamp items all sets) name ≡ entry_at sets name
-made_tables-left stamp items [] sets name left = refl
-made_tables-left stamp items (placed ∷ rest) sets name left =
-    made_tables-left stamp items rest (made_table stamp items placed placed.allotment sets) name left.1
-    ∙ made_left stamp items placed placed.allotment sets name left.0
 
 -- ---- a holder
 

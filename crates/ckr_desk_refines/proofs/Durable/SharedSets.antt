@@ -1,45 +1,38 @@
 -- What two running steps have in common neither of them writes.
-use Rattle.std.proofs.Common.{◌≡◌, ◌≢◌, ℕ, true, false, length, ap, sym, ◌∙◌, subst, refl, Option, Some, None}
+use Rattle.std.proofs.Common.{◌≡◌, ◌≢◌, ℕ, true, false, length, ap, sym, ◌∙◌, subst, Option, Some, None}
 use Rattle.std.specs.Option.{option_map, option_map_or}
 use Rattle.std.proofs.lemmas.Option.{same_Some}
-use Rattle.ckr_base.proofs.Options.{some-not-none}
 use Rattle.ckr_points_library.specs.Commit.{output_names}
 use Rattle.ckr_library.specs.declared.sets.Content.TheVariants.{Plain}
 use Rattle.ckr_library.specs.NameMaps.{Name, entry_at}
-use Rattle.ckr_meaning.specs.EffectiveJob.{Effective, OwnedStep, is_among, names_of, step_at}
-use Rattle.ckr_meaning.specs.JobRun.{start_at, start_in, walk_before}
-use Rattle.ckr_meaning.specs.LibrarySet.{Library, LibrarySet}
+use Rattle.ckr_meaning.specs.EffectiveJob.{OwnedStep, is_among, names_of, step_at}
+use Rattle.ckr_meaning.specs.JobRun.{start_at}
+use Rattle.ckr_meaning.specs.LibrarySet.{LibrarySet}
 use Rattle.ckr_meaning.specs.StepRun.{StepStart, within_at}
 use Rattle.ckr_points.specs.Office.{Leg, Office, leg_of}
 use Rattle.ckr_points.specs.Restart.{place_of, step_in}
 use Rattle.ckr_points.specs.Payload.{start_in_office}
 use Rattle.ckr_points.specs.Rows.{RunRow, TableSet, step_of_run}
 use Rattle.ckr_points_invariant.specs.Invariant.{AreAlike, IsAgreed, IsKept, table_shape}
-use Rattle.ckr_points_invariant.specs.RunningSteps.{IsRunning, its_start, start_of}
+use Rattle.ckr_points_invariant.specs.RunningSteps.{IsRunning, its_start}
 use Rattle.ckr_points_invariant.proofs.Steps.Commits.{alike_within, in_reach}
 use Rattle.ckr_points_invariant.proofs.Holders.SharedSets.{within_at-left}
 use Rattle.ckr_points_invariant.proofs.Stamps.Tables.{alike_set}
+use Rattle.ckr_points_invariant.proofs.OtherRuns.Outputs.{not-output}
+use Rattle.ckr_points_invariant.proofs.Continuations.Reached.{start-found}
 use Rattle.ckr_volumes.specs.declared.layout.Layout.{Layout}
 use Rattle.ckr_desk_refines.specs.SharedSets.{IsInStep, IsShared, LeavesOthers}
-use Rattle.ckr_desk_refines.proofs.Durable.OtherSets.{IsLeft, left-of, not-output, running-leaves}
+use Rattle.ckr_desk_refines.proofs.Durable.OtherSets.{IsLeft, left-of, running-leaves}
 use Rattle.ckr_desk_refines.proofs.Durable.Events.{its-start}
 use Rattle.ckr_desk_refines.proofs.Durable.Fellows.{others-of-step}
 use Rattle.ckr_desk_refines.proofs.Durable.Start.{none-long}
 
 -- ---- a holder in its step
 
-start_at-is : (job : Effective) (library : Library) (number : ℕ) (start : StepStart) → start_at job library number ≡ Some start → (owned : OwnedStep) × (step_at job number ≡ Some owned) × (start_of job library number owned ≡ start)
-unfolding start_at
-start_at-is job library number start e = by (step_at job number) refl e
-  where
-    by : (o : Option OwnedStep) → step_at job number ≡ o → option_map (λ owned. start_in job.root number owned (walk_before job library number)) o ≡ Some start → (owned : OwnedStep) × (step_at job number ≡ Some owned) × (start_of job library number owned ≡ start)
-    by None at_step e = absurd (some-not-none start (sym e))
-    by (Some owned) at_step e = (owned, at_step, same_Some (start_of job library number owned) start e)
-
 -- it is running the step that its job starts
 pub running-of : (layout : Layout) (office : Office) (number : ℕ) (row : RunRow) (leg : Leg) (start : StepStart) (writes : ℕ) → IsAgreed layout office → IsInStep office number row leg start writes → (owned : OwnedStep) × IsRunning office number row leg owned start.number writes × (its_start leg owned start.number ≡ start)
 running-of layout office number row leg start writes kept runs =
-    let its = start_at-is leg.job leg.start start.number start there in
+    let its = start-found leg.job leg.start start.number start there in
     (its.0, record { holder = runs.holder; stands = runs.stands; found = ap (λ job. step_at job start.number) (sym (kept.places number row leg runs.holder).job) ∙ its.1 }, its.2)
   where
     there : start_at leg.job leg.start start.number ≡ Some start

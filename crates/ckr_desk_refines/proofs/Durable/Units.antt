@@ -25,7 +25,7 @@ use Rattle.ckr_desk_refines.specs.Commits.{HasCommitted, HasWithin}
 use Rattle.ckr_desk_refines.specs.StepSets.{HasSets, LiesThere}
 
 -- apart from a data set is apart from one in the same places
-apart-there : (one two other : DataSet) → SamePlaces one two → IsTrue (lie_apart one other) → IsTrue (lie_apart two other)
+pub apart-there : (one two other : DataSet) → SamePlaces one two → IsTrue (lie_apart one other) → IsTrue (lie_apart two other)
 apart-there one two other same apart =
     ap (λ (stretches : List StretchModel). lists_apart two.lrecl other.lrecl stretches (stretches_of other)) (ap stretches_of_parts same.parts)
     ∙ ap (λ (lrecl : ℕ). lists_apart lrecl other.lrecl (stretches_of one) (stretches_of other)) same.lrecl

@@ -27,6 +27,7 @@ use Rattle.ckr_points_invariant.specs.Invariant.{IsKept, step_now}
 use Rattle.ckr_points_invariant.proofs.EventList.{office-more, sound-front}
 use Rattle.ckr_points_invariant.proofs.Holders.Places.{outputs-among}
 use Rattle.ckr_points_invariant.proofs.WaitingRuns.{follows-of, tested-run}
+use Rattle.ckr_points_invariant.proofs.OtherRuns.Sets.{length-among}
 use Rattle.ckr_volumes.specs.declared.layout.Layout.{Layout}
 use Rattle.ckr_desk_memory.proofs.Starts.Steps.{row-among}
 use Rattle.ckr_desk_turn.specs.Invariant.{HasRuns, IsAdmitted}
@@ -35,7 +36,7 @@ use Rattle.ckr_desk_turn.proofs.Runs.Lists.{events-kept, events-run}
 use Rattle.ckr_desk_refines.specs.Entries.{HasCheckDd, IsCheckDd, OnlyCheckSetsKeep}
 use Rattle.ckr_desk_refines.proofs.Entries.Checkpoint.{plain-taken}
 use Rattle.ckr_desk_refines.proofs.Entries.DeckNames.{admitted-named, among-named}
-use Rattle.ckr_desk_refines.proofs.Entries.EffectEvents.{length-among, of-found}
+use Rattle.ckr_desk_refines.proofs.Entries.EffectEvents.{of-found}
 use Rattle.ckr_desk_refines.proofs.Entries.Events.{plain-next}
 use Rattle.ckr_desk_refines.proofs.Entries.RunningStep.{checkpoint-checks}
 use Rattle.ckr_desk_refines.proofs.Entries.Legs.{tables-behind}

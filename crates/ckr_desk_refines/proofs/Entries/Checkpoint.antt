@@ -164,7 +164,7 @@ module _ (E : TableSet → Type 0) (stays : sets.Stays E) (tables : TablesModel)
 
 -- ---- the entry is there, and within
 
-plain-checks : Plain ≡ Checkpoints → ⊥
+pub plain-checks : Plain ≡ Checkpoints → ⊥
 plain-checks e = cc
 
 module _ (layout : Layout) (now : Office) (numbered : AreNumbered now.tables) (id : Name) (job taken writes place bytes : ℕ) (lengths : ArrayVec ℕ) (deck : Option Job) (image : List ℕ) where

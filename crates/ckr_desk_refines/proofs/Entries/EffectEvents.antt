@@ -1,12 +1,12 @@
 -- One more event by which no run goes back leaves the checkpoints in effect, or puts its own into effect.
 use Rattle.std.proofs.Common.{◌≡◌, ◌⊎◌, inl, inr, ⊎_elim, ℕ, zero, suc, ◌+◌, Bool, true, false, ◌||◌, ◌&&◌, List, [], ◌∷◌, ◌++◌, refl, ap, sym, ◌∙◌, subst, Option, Some, None, arith}
-use Rattle.std.specs.Prelude.{◌==◌, if◌then◌else◌, slice_get}
+use Rattle.std.specs.Prelude.{slice_get}
 use Rattle.std.specs.Option.{is_none, is_some, option_map, option_map_or}
 use Rattle.std.proofs.lemmas.Bool.{and_from, false≢true, or_left, or_right}
 use Rattle.std.proofs.lemmas.Option.{same_Some}
 use Rattle.arrayvec.specs.ArrayVec.{ArrayVec}
 use Rattle.ckr_base.specs.declared.code.Code.{Code}
-use Rattle.ckr_base.proofs.Bools.{and-first, and-second, bool-cases}
+use Rattle.ckr_base.proofs.Bools.{and-first, and-second}
 use Rattle.ckr_base.proofs.Options.{is_none-true, is_some-true, option-cases, some-not-none}
 use Rattle.ckr_entry.specs.declared.point.Mark.{Mark}
 use Rattle.ckr_events.specs.declared.event.Event.TheVariants.{Cancelled, Checkpointed, Denied, Ended, Held, Purged, Released, Rewritten, Selected, Started, StepEnded, Submitted}
@@ -17,7 +17,7 @@ use Rattle.ckr_jcl.specs.declared.deck.Job.{Job}
 use Rattle.ckr_library.specs.declared.sets.Kept.{Kept}
 use Rattle.ckr_library.specs.Catalog.{records_of}
 use Rattle.ckr_library.specs.NameMaps.{Name, entry_at, same_name}
-use Rattle.ckr_library.proofs.Named.{name-turned, name-itself}
+use Rattle.ckr_library.proofs.Named.{name-itself}
 use Rattle.ckr_meaning.specs.Dispositions.{Stock, passed_ended}
 use Rattle.ckr_meaning.specs.EffectiveJob.{Effective, OwnedStep, is_among, names_of, step_at}
 use Rattle.ckr_meaning.specs.JobRun.{start_at}
@@ -39,6 +39,7 @@ use Rattle.ckr_points_invariant.proofs.Holders.Rows.{holder-waits}
 use Rattle.ckr_points_invariant.proofs.Marks.Points.{present-now}
 use Rattle.ckr_points_invariant.proofs.Steps.Events.{led-by, on-holds}
 use Rattle.ckr_points_invariant.proofs.Steps.Walks.{start_at-of}
+use Rattle.ckr_points_invariant.proofs.OtherRuns.Sets.{length-among}
 use Rattle.ckr_volumes.specs.declared.layout.Layout.{Layout}
 use Rattle.ckr_desk_turn.proofs.Checkpoints.Kept.{kept-then}
 use Rattle.ckr_desk_refines.specs.Entries.{AreWithin, entry_taken}
@@ -58,15 +59,6 @@ starts-none : {A : Type 0} (step : ℕ) (place : Place) → may_start step place
 starts-none step (Before number) may within = absurd (false≢true within)
 starts-none step (Opened number) may within = absurd (false≢true within)
 starts-none step (Within number writes) may within = absurd (false≢true may)
-
--- a name whose length is given is one of the names
-pub length-among : (name : Name) (most : ℕ) (names : List Name) (lengths : List ℕ) → is_length_of name most names lengths ≡ true → is_among names name ≡ true
-length-among name most [] lengths has = absurd (false≢true has)
-length-among name most (first ∷ names) [] has = absurd (false≢true has)
-length-among name most (first ∷ names) (now ∷ lengths) has =
-    bool-cases (same_name first name)
-    (λ same. or_left (same_name name first) (is_among names name) (name-turned name first ∙ same))
-    (λ apart. or_right (same_name name first) (is_among names name) (length-among name most names lengths (sym (ap (λ (b : Bool). if b then now == most else is_length_of name most names lengths) apart) ∙ has)))
 
 pub of-found : {A : Type 0} (test : A → Bool) (o : Option A) (its : A) → option_map_or test o false ≡ true → o ≡ Some its → test its ≡ true
 of-found test o its passes e = sym (ap (λ o. option_map_or test o false) e) ∙ passes

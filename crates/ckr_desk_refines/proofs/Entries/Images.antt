@@ -18,22 +18,15 @@ use Rattle.ckr_steps.specs.EntryRecords.{SameRecordsOutside, bytes_on}
 use Rattle.ckr_steps.specs.Writes.{Keeps}
 use Rattle.ckr_steps.proofs.EntryRecords.{bytes-back}
 use Rattle.ckr_volumes.specs.declared.layout.Layout.{Layout}
-use Rattle.ckr_volumes.specs.Layouts.{StandsIn, lie_apart, lists_apart}
+use Rattle.ckr_volumes.specs.Layouts.{StandsIn, lie_apart}
 use Rattle.ckr_volumes.specs.Lists.{same_records}
-use Rattle.ckr_volumes.specs.Places.{StretchModel, stretches_of, stretches_of_parts}
 use Rattle.ckr_volumes.specs.Records.{records_on}
 use Rattle.ckr_volumes.specs.SamePlaces.{SamePlaces, same_places}
 use Rattle.ckr_desk_refines.specs.StepSets.{HasSets}
-use Rattle.ckr_desk_refines.proofs.Durable.Units.{table-kept}
+use Rattle.ckr_desk_refines.proofs.Durable.Units.{table-kept, apart-there}
 use Rattle.ckr_desk_refines.specs.Entries.{HasEntries, IsEntryThere, IsReadBack, SameKept, jobs_of}
 
 -- ---- records outside of some place
-
-apart_there : (one two other : DataSet) → SamePlaces one two → IsTrue (lie_apart one other) → IsTrue (lie_apart two other)
-apart_there one two other same apart =
-    ap (λ (stretches : List StretchModel). lists_apart two.lrecl other.lrecl stretches (stretches_of other)) (ap stretches_of_parts same.parts)
-    ∙ ap (λ (lrecl : ℕ). lists_apart lrecl other.lrecl (stretches_of one) (stretches_of other)) same.lrecl
-    ∙ apart
 
 module _ (layout : Layout) (sets : Named TableSet) (laid : AreLaidOut layout sets) (old new : List ℕ) where
   stands_in : (name : Name) (table : TableSet) → entry_at sets name ≡ Some table → StandsIn layout table.set
@@ -53,7 +46,7 @@ module _ (layout : Layout) (sets : Named TableSet) (laid : AreLaidOut layout set
         subst (λ (table : TableSet). table.entries ≢ [] → records_on new layout table.set table.set.length ≡ records_on old layout table.set table.set.length) table_is kept)
         (λ other some.
         let stands : StandsIn layout table.set = stands_in name table e in
-        others table.set table.set.length stands (apart_there its.set set table.set places (laid.apart written name its table other at e)) stands.length_fits)
+        others table.set table.set.length stands (apart-there its.set set table.set places (laid.apart written name its table other at e)) stands.length_fits)
 
   -- records behind what is committed of one data set are written
   pub outside-kept : (written : Name) (its : TableSet) (set : DataSet) (place count : ℕ) → entry_at sets written ≡ Some its → SamePlaces its.set set → its.set.length ≤ place → its.set.length ≤ set.space → SameRecordsOutside layout set place count old new → SameKept layout sets old new

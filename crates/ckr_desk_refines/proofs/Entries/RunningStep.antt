@@ -37,15 +37,17 @@ use Rattle.ckr_points_invariant.proofs.Start.Event.{running-so}
 use Rattle.ckr_points_invariant.proofs.Steps.Commits.{alike_within, formed_step, in_reach, under_way}
 use Rattle.ckr_points_invariant.proofs.Steps.Events.{led-by, on-holds}
 use Rattle.ckr_points_invariant.proofs.WaitingRuns.{follows-of, tested-run}
+use Rattle.ckr_points_invariant.proofs.OtherRuns.Sets.{length-among}
+use Rattle.ckr_points_invariant.proofs.OtherRuns.Outputs.{not-output}
 use Rattle.ckr_volumes.specs.declared.layout.Layout.{Layout}
 use Rattle.ckr_desk_turn.proofs.Checkpoints.Content.{within-keeps}
 use Rattle.ckr_desk_turn.proofs.Start.Sets.{IsThere, made_at-there, written_all-there}
 use Rattle.ckr_desk_turn.proofs.Units.Outputs.{within_at-parts}
 use Rattle.ckr_desk_refines.specs.SharedSets.{LeavesOthers}
-use Rattle.ckr_desk_refines.proofs.Durable.OtherSets.{IsLeft, committed-left, left-of, not-output, running-leaves}
+use Rattle.ckr_desk_refines.proofs.Durable.OtherSets.{IsLeft, committed-left, left-of, running-leaves}
 use Rattle.ckr_desk_refines.specs.Entries.{HasCheckDd, HasCheckSet, entry_taken, takes_checkpoint}
 use Rattle.ckr_desk_refines.specs.EntryRefusal.{HasStepNames}
-use Rattle.ckr_desk_refines.proofs.Entries.EffectEvents.{length-among, of-found, tested-some}
+use Rattle.ckr_desk_refines.proofs.Entries.EffectEvents.{of-found, tested-some}
 
 some-alike : (entry : Option TableSet) (other : Option LibrarySet) → option_map table_shape entry ≡ option_map set_shape other → is_some other ≡ true → is_some entry ≡ true
 some-alike None None alike there = there

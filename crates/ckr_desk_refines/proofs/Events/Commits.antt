@@ -77,7 +77,7 @@ stands-within layout office image on step stands row start row_at start_at =
     (within-shown (Unit {0}) image layout office.tables.sets stands.start step.progress.writes on.sets tt stands.sets stands.shows)
 
 -- a step that has stopped has made its writes
-stopped-writes : (code : Option Code) (step : TurnStep) → (as_stopped code step).writes ≡ step.writes
+pub stopped-writes : (code : Option Code) (step : TurnStep) → (as_stopped code step).writes ≡ step.writes
 stopped-writes None step = refl
 stopped-writes (Some code) step = refl
 

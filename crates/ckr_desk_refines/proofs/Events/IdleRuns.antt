@@ -2,7 +2,6 @@
 use Rattle.std.proofs.Common.{◌≡◌, ◌&&◌, ◌||◌, ℕ, true, false, refl, ap, sym, ◌∙◌, subst, Option, Some, None}
 use Rattle.std.specs.Prelude.{nat_eq}
 use Rattle.std.specs.Option.{option_eq, option_map_or}
-use Rattle.std.proofs.lemmas.Bool.{false≢true}
 use Rattle.arrayvec.specs.ArrayVec.{ArrayVec}
 use Rattle.ckr_base.specs.declared.code.Code.{Code}
 use Rattle.ckr_base.proofs.Bools.{and-first, and-second}
@@ -30,13 +29,8 @@ use Rattle.ckr_desk_memory.proofs.Holders.Events.{by-some}
 use Rattle.ckr_desk_memory.proofs.Holders.Moves.{HasRow, by-own, by-row, row-as_is, row-next}
 use Rattle.ckr_volumes.specs.declared.layout.Layout.{Layout}
 use Rattle.ckr_desk_memory.specs.Invariant.{is_in_step}
+use Rattle.ckr_desk_memory.proofs.Invariant.{not-within}
 use Rattle.ckr_desk_refines.proofs.Standing.Points.{IsIdle, check-by}
-
--- a place at which a step may start is within none
-out-of-step : (step : ℕ) (place : Place) → may_start step place ≡ true → is_within place ≡ false
-out-of-step step (Before number) may = refl
-out-of-step step (Opened number) may = refl
-out-of-step step (Within number writes) may = absurd (false≢true may)
 
 module _ (layout : Layout) (now : Office) (agreed : IsAgreed layout now) (ready : AreReady now) (job : ℕ) where
   abbrev tables : TablesModel
@@ -135,7 +129,7 @@ module _ (layout : Layout) (now : Office) (agreed : IsAgreed layout now) (ready 
       (option_map_or-true (step_of_run row step) _ (and-second (is_in_state On row) _ passes)
       (λ owned found ready_so.
       let placed_so = placed_in table_ways (standing_of row tables) row.job.root owned in
-      let out : is_within (place_of row) ≡ false = out-of-step step (place_of row) (and-first (may_start step (place_of row)) _ (and-first (may_start step (place_of row) && is_empty (flaws_in placed_so)) _ ready_so)) in
+      let out : is_within (place_of row) ≡ false = not-within step (place_of row) (and-first (may_start step (place_of row)) _ (and-first (may_start step (place_of row) && is_empty (flaws_in placed_so)) _ ready_so)) in
       by-some Idle (step_of_run row step) (λ owned. after_started row owned step items.items tables) tables owned found
       (idle-row (after_started row owned step items.items tables) _ (row-next tables tables job row _ (after_started row owned step items.items tables).sets (as_is row at) (agreed.numbered job row at)).now
       (λ runs. led-by layout now job row agreed at (on-holds row.state (and-first (is_in_state On row) _ passes)) (λ leg holder. (ready.runs job row leg holder).none out))))))

@@ -36,6 +36,7 @@ use Rattle.ckr_points_invariant.proofs.Holders.Rows.{run-other, run-same}
 use Rattle.ckr_desk_memory.proofs.Holders.Submissions.{row-before}
 use Rattle.ckr_volumes.specs.declared.layout.Layout.{Layout}
 use Rattle.ckr_desk_memory.specs.Invariant.{is_in_step}
+use Rattle.ckr_desk_turn.proofs.Select.{queued-off}
 
 -- the rows and the legs of the other runs are as they were
 pub record LeavesRuns (now later : Office) (run : ℕ) : Type 0 where
@@ -194,9 +195,6 @@ cancelled-leaves layout now job kept = record {
 }
 
 -- ---- the events of a run that is on none
-
-queued-off : (state : RunState) → (state_number state == 1) ≡ true → state ≡ On → ⊥
-queued-off state queued on = false≢true (ap (λ (s : RunState). state_number s == 1) (sym on) ∙ queued)
 
 held-off : (state : RunState) → (state_number state == 3) ≡ true → state ≡ On → ⊥
 held-off state held on = false≢true (ap (λ (s : RunState). state_number s == 3) (sym on) ∙ held)

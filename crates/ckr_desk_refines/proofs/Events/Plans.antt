@@ -1,5 +1,5 @@
 -- What a turn tells of a desk that stands: each event with what the image has of its run.
-use Rattle.std.proofs.Common.{◌≡◌, ◌≤◌, ℕ, Bool, true, false, not, ◌&&◌, ◌||◌, List, [], ◌∷◌, refl, ap, sym, ◌∙◌, subst, Option, Some, None, Result, Ok, Err, cond}
+use Rattle.std.proofs.Common.{◌≡◌, ◌≤◌, ℕ, Bool, true, false, not, ◌&&◌, List, refl, ap, sym, ◌∙◌, subst, Option, Some, None, Result, Ok, Err, cond}
 use Rattle.std.specs.Prelude.{◌==◌, if◌then◌else◌}
 use Rattle.std.specs.List.{list_any}
 use Rattle.std.specs.Option.{is_some, option_map_or}
@@ -10,7 +10,7 @@ use Rattle.ckr_points_library.specs.declared.cause.Refusal.{Refusal}
 use Rattle.ckr_base.specs.declared.code.Code.{Code}
 use Rattle.ckr_base.specs.declared.programs.NextDue.{NextDue}
 use Rattle.ckr_base.specs.declared.programs.NextDue.TheVariants.{Unit as OneUnit, Checkpoint, Cancel, Finished}
-use Rattle.ckr_base.proofs.Bools.{bool-cases, or-first-false, or-second-false}
+use Rattle.ckr_base.proofs.Bools.{bool-cases}
 use Rattle.ckr_base.proofs.Options.{is_none-true, is_some-true, option-cases}
 use Rattle.ckr_base.proofs.Sequences.{find-all}
 use Rattle.ckr_console.specs.declared.question.Answer.{Answer}
@@ -34,7 +34,7 @@ use Rattle.ckr_desk_turn.proofs.Restart.Events.{MayGoOn}
 use Rattle.ckr_desk_turn.proofs.RunningSteps.{FoundStep, found-step, going-within}
 use Rattle.ckr_desk_turn.proofs.Select.{code_while}
 use Rattle.ckr_desk_turn.proofs.Start.Invariant.{not-failed, planned-within}
-use Rattle.ckr_desk_turn.proofs.Turns.Initiator.{released-stands}
+use Rattle.ckr_desk_turn.proofs.Turns.Initiator.{released-stands, fewer-marked}
 use Rattle.ckr_desk_refines.specs.Commits.{HasCommitted, HasWithinRun}
 use Rattle.ckr_meaning.specs.EffectiveJob.{OwnedStep}
 use Rattle.ckr_meaning.specs.declared.place.Place.{Place}
@@ -113,13 +113,6 @@ answer-tells Q No (Ask inquiry) of = of.ends
 answer-tells Q Hold (Ask inquiry) of = of.is_held
 answer-tells Q Silent (Ask inquiry) of = silent-tells Q inquiry
 answer-tells Q answer _ of = of
-
--- fewer marks than none
-fewer-marked : (failed : List FailedRun) (run : ℕ) (also : FailedRun → Bool) → list_any (λ (one : FailedRun). one.run == run) failed ≡ false → list_any (λ (one : FailedRun). one.run == run && also one) failed ≡ false
-fewer-marked [] run also none = refl
-fewer-marked (first ∷ rest) run also none =
-    ap (λ b. b && also first || list_any (λ (one : FailedRun). one.run == run && also one) rest) (or-first-false (first.run == run) (list_any (λ (one : FailedRun). one.run == run) rest) none)
-    ∙ fewer-marked rest run also (or-second-false (first.run == run) (list_any (λ (one : FailedRun). one.run == run) rest) none)
 
 module _ (desk : DeskModel) (is : IsDesk desk) (image : List ℕ) (seen : List RunningStepView) (all : AllStand desk.layout desk.office image seen desk.running) (had : HasCommitted desk.layout desk.office image)
     (Q : Event → Type 0) (each : OfEach desk image Q) where

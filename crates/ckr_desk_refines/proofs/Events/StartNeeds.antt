@@ -36,6 +36,7 @@ use Rattle.ckr_points.specs.Payload.{has_role, has_set, is_formed_step}
 use Rattle.ckr_points_invariant.proofs.Library.Likeness.{placed-apart}
 use Rattle.ckr_points_invariant.proofs.Start.Openings.{opened-known}
 use Rattle.ckr_points_invariant.proofs.Writes.Roles.{dd_role, formed-roles}
+use Rattle.ckr_points_invariant.proofs.StepEnd.Disposals.{no_flaw}
 use Rattle.ckr_steps.specs.declared.files.RecordSource.{RecordSource}
 use Rattle.ckr_steps.specs.declared.files.RecordSource.TheVariants.{InDeck, InSet, Nowhere}
 use Rattle.ckr_steps.specs.Files.{dd_in, files_of, input_dd, set_of_source, source_by, source_in}
@@ -109,9 +110,6 @@ rejects-role Print name e = absurd (some-not-none name (sym e))
 rejects-role Br14 name e = absurd (some-not-none name (sym e))
 
 -- ---- what is allotted
-
-no_flaw : {A : Type 0} (flaw : FlawModel) → flaw_in (refused flaw) ≡ None → A
-no_flaw flaw e = absurd (some-not-none flaw e)
 
 kind-plain : (content : Content) (wrong : Bool) → (content ≡ Checkpoints → wrong ≡ true) → flaw_in (if wrong then refused wrong_kind else found) ≡ None → content ≡ Plain
 kind-plain content true so e = no_flaw wrong_kind e

@@ -9,19 +9,17 @@ use Rattle.std.proofs.lemmas.List.Folds.{list_any-append}
 use Rattle.ckr_base.proofs.Bools.{and-first, and-second, or-cases}
 use Rattle.ckr_base.proofs.Numbers.{equal-true, nat_le-true}
 use Rattle.ckr_entry.specs.declared.point.Mark.{Mark}
-use Rattle.ckr_entry.specs.declared.point.Present.{Present}
 use Rattle.ckr_jcl.specs.declared.deck.Dd.{Dd}
-use Rattle.ckr_jcl.specs.declared.deck.Disp.{Disp}
 use Rattle.ckr_jcl.specs.declared.deck.Origin.{Origin}
 use Rattle.ckr_jcl.specs.declared.deck.Origin.TheVariants.{Named as NamedOrigin, Sysout}
 use Rattle.ckr_jcl.specs.Qualifiers.{is_kept_name}
-use Rattle.ckr_library.specs.NameMaps.{Name, Named, entry_at, same_name}
+use Rattle.ckr_library.specs.NameMaps.{Name, Named, same_name}
 use Rattle.ckr_library.proofs.Named.{name-same}
 use Rattle.ckr_meaning.specs.EffectiveJob.{Effective, OwnedStep, is_among, name_of, names_of, names_of_job, names_of_steps, owned_by}
 use Rattle.ckr_volumes.specs.declared.layout.Layout.{Layout}
-use Rattle.ckr_points.specs.Marks.{deck_names, has_passed, is_as_marked, lost_names, mark_at, own_names, still_exists}
+use Rattle.ckr_points.specs.Marks.{deck_names, has_passed, lost_names, mark_at, own_names, still_exists}
 use Rattle.ckr_points.specs.Office.{Leg, Office, leg_of, passed_made}
-use Rattle.ckr_points.specs.Payload.{is_orderly_at, is_orderly_dd}
+use Rattle.ckr_points.specs.Payload.{is_orderly_dd}
 use Rattle.ckr_points.specs.RuleCases.{is_ended}
 use Rattle.ckr_points.specs.Rows.{RunRow, TableSet, run_of}
 use Rattle.ckr_points.proofs.NeededNames.{spliced-from}
@@ -36,9 +34,11 @@ use Rattle.ckr_points_invariant.proofs.Continuations.ReachedNames.Statements.{st
 use Rattle.ckr_points_invariant.proofs.Decks.Events.{row-orderly}
 use Rattle.ckr_points_invariant.proofs.Decks.Names.{orderly-number}
 use Rattle.ckr_points_invariant.proofs.Holders.DeckNames.{deck-named, run_names-long}
-use Rattle.ckr_points_invariant.proofs.Holders.NamesInCommon.{InCommon, IsWritten, TellsApart, by_owner, by_root, in-common, written}
+use Rattle.ckr_points_invariant.proofs.Holders.NamesInCommon.{InCommon, TellsApart, by_owner, by_root, in-common, written}
 use Rattle.ckr_points_invariant.proofs.Holders.Rows.{leg-number, queued-is}
 use Rattle.ckr_points_invariant.proofs.Library.PassedList.{made-without}
+use Rattle.ckr_points_invariant.proofs.Holders.CommonNames.{origin-written}
+use Rattle.ckr_points_invariant.proofs.Continuations.DataSets.{exists-marked}
 use Rattle.ckr_uses.specs.SetNames.{origin_name, run_name}
 use Rattle.ckr_desk_refines.specs.Holders.{held_names}
 use Rattle.ckr_desk_refines.proofs.Listing.HeldNames.{later-held, named-held, step-held}
@@ -48,10 +48,6 @@ use Rattle.ckr_desk_refines.proofs.Listing.HeldNames.{later-held, named-held, st
 own-apart : TellsApart is_kept_name
 unfolding is_kept_name
 own-apart = record { temporary = λ qualifier tail. refl; sysout = λ qualifier tail. refl }
-
-origin-written : (origin : Origin) (disp : Disp) → is_orderly_at origin disp ≡ true → IsWritten is_kept_name origin
-origin-written (NamedOrigin name) disp orderly = not-true (is_kept_name name) orderly
-origin-written _ disp orderly = tt
 
 -- the DD that gives a name of a step
 dd-of : (root : ℕ) (owned : OwnedStep) (dds : List Dd) (name : Name) → list_all is_orderly_dd dds ≡ true → is_among (filter_map (name_of root owned) dds) name ≡ true → (dd : Dd) × (name_of root owned dd ≡ Some name) × (is_orderly_dd dd ≡ true)
@@ -76,14 +72,6 @@ step-of root (first ∷ steps) name orderly among =
     (sym (list_any-append (same_name name) (names_of root first) (names_of_steps root steps)) ∙ among)
     (λ here. (zero, first, refl, and-first (list_all is_orderly_dd first.step.dds) _ orderly, here))
     (λ later. let its = step-of root steps name (and-second (list_all is_orderly_dd first.step.dds) _ orderly) later in (suc its.0, its.1, its.2, its.3, its.4))
-
--- a name that still exists has a mark
-exists-marked : (marks : List Mark) (named : List Name) (sets : Named TableSet) (name : Name) → still_exists marks named sets name ≡ true → is_some (mark_at marks name) ≡ true
-exists-marked marks named sets name exists = by (mark_at marks name) (and-second (is_among named name) _ exists)
-  where
-    by : (mark : Option Mark) → option_map_or (λ (present : Present). option_map_or (λ (table : TableSet). is_as_marked table present) (entry_at sets name) false) (option_map_or (λ (mark : Mark). mark.present) mark None) false ≡ true → is_some mark ≡ true
-    by None e = absurd (false≢true e)
-    by (Some mark) e = refl
 
 -- ---- the run
 

@@ -4,7 +4,6 @@ use Rattle.std.specs.List.{AllByRecursion}
 use Rattle.std.specs.Option.{option_map, option_map_or}
 use Rattle.std.proofs.lemmas.Bool.{false≢true}
 use Rattle.std.proofs.lemmas.Option.{same_Some}
-use Rattle.ckr_base.proofs.Options.{some-not-none}
 use Rattle.ckr_desk_memory.specs.View.{RunningStepView, length_in}
 use Rattle.ckr_desk_turn.specs.Invariant.{IsDesk, IsGoing}
 use Rattle.ckr_desk_turn.proofs.RunningSteps.{going-within}
@@ -30,16 +29,9 @@ use Rattle.ckr_steps.specs.Writes.{IsShown}
 use Rattle.ckr_desk_turn.specs.Desk.{DeskModel, DeskStep, start_of}
 use Rattle.ckr_desk_refines.specs.Lengths.{longest_seen}
 use Rattle.ckr_desk_refines.specs.Listing.{length_at, length_in_step, longest}
+use Rattle.ckr_desk_refines.proofs.Standing.Lengths.{bare-set, in-sets}
 
 -- ---- the data sets in memory
-
--- the length of a data set that is there
-in-sets : (catalog : Catalog) (name : Name) (set : DataSet) → set_of catalog name ≡ Some set → length_in catalog.sets name ≡ set.length
-in-sets catalog name set is = by (entry_at catalog.sets name) is
-  where
-    by : (entry : Option Holding) → option_map (λ (h : Holding). h.set) entry ≡ Some set → option_map_or (λ (holding : Holding). holding.set.length) entry 0 ≡ set.length
-    by None e = absurd (some-not-none set (sym e))
-    by (Some held) e = ap (λ (s : DataSet). s.length) (same_Some held.set set e)
 
 -- there is none
 not-in-sets : (catalog : Catalog) (name : Name) → ((set : DataSet) → set_of catalog name ≡ Some set → ⊥) → length_in catalog.sets name ≡ 0
@@ -54,10 +46,6 @@ not-in-sets catalog name none = by (entry_at catalog.sets name) none
 -- a step has there a data set for records of programs
 abbrev HasPlain : StepStart → ℕ → Name → Type 0
 HasPlain start writes name = (its : LibrarySet) × (entry_at (within_at start writes) name ≡ Some its) × (its.content ≡ Plain)
-
-bare-set : (shape : Shape) (entry : Option LibrarySet) → option_map (λ set. bare (set_shape set)) entry ≡ Some shape → (its : LibrarySet) × (entry ≡ Some its) × (bare (set_shape its) ≡ shape)
-bare-set shape None e = absurd (some-not-none shape (sym e))
-bare-set shape (Some set) e = (set, refl, same_Some (bare (set_shape set)) shape e)
 
 module _ (desk : DeskModel) (is : IsDesk desk) (name : Name) (table : TableSet) (found : entry_at desk.office.tables.sets name ≡ Some table) (content : table.set.content ≡ Plain) where
   abbrev office : Office

@@ -14,7 +14,7 @@ use Rattle.ckr_desk_refines.specs.Commits.{HasCommitted, HasWithin}
 use Rattle.ckr_desk_refines.specs.SharedSets.{LieStill}
 use Rattle.ckr_desk_refines.specs.StepSets.{LiesThere}
 use Rattle.ckr_desk_refines.proofs.Durable.Stamps.{as-office, counted-plain, records-stamped}
-use Rattle.ckr_desk_refines.proofs.Durable.Units.{table-kept, within-shown}
+use Rattle.ckr_desk_refines.proofs.Durable.Units.{table-kept, within-shown, apart-there}
 use Rattle.ckr_library.specs.declared.sets.Content.TheVariants.{Plain}
 use Rattle.ckr_library.specs.declared.sets.DataSet.{DataSet}
 use Rattle.ckr_library.specs.Catalog.{set_of}
@@ -42,7 +42,7 @@ use Rattle.ckr_volumes.specs.Records.{records_on}
 use Rattle.ckr_volumes.specs.SamePlaces.{same_places}
 use Rattle.ckr_volumes.specs.Layouts.{StandsIn, lie_apart}
 use Rattle.ckr_desk_refines.proofs.Rewrites.Office.{behind, lengths_now, next, own-sets, own-table, running-then}
-use Rattle.ckr_desk_refines.proofs.Rewrites.Legs.{IsLedStep, apart-there}
+use Rattle.ckr_desk_refines.proofs.Rewrites.Legs.{IsLedStep}
 use Rattle.ckr_desk_refines.proofs.Rewrites.OwnStep.{same-job, told-so, updated-among, updated-is, updated-plain}
 use Rattle.ckr_desk_refines.proofs.Rewrites.Unit.{one-more}
 

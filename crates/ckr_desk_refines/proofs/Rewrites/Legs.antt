@@ -1,10 +1,9 @@
 -- A running step in memory beside its leg: its data sets stand in the layout, apart from each other, and have space for their records.
-use Rattle.std.proofs.Common.{◌≡◌, ◌≤◌, ◌+◌, ◌-◌, ℕ, true, false, List, length, refl, ap, sym, ◌∙◌, subst, Option, None, Some, arith}
+use Rattle.std.proofs.Common.{◌≡◌, ◌≤◌, ◌+◌, ◌-◌, ℕ, true, false, List, length, refl, ap, sym, ◌∙◌, subst, None, Some, arith}
 use Rattle.std.specs.Prelude.{IsTrue, nat_lt, sum_by}
 use Rattle.std.specs.List.{list_all}
 use Rattle.std.specs.Option.{option_map}
 use Rattle.std.proofs.lemmas.Option.{same_Some}
-use Rattle.ckr_base.proofs.Options.{some-not-none}
 use Rattle.ckr_base.specs.declared.programs.NextDue.TheVariants.{Checkpoint}
 use Rattle.ckr_desk_turn.specs.Due.{next_due}
 use Rattle.ckr_desk_turn.specs.Invariant.{IsDesk, IsGoing}
@@ -38,6 +37,8 @@ use Rattle.ckr_points_invariant.proofs.Stamps.Tables.{alike_set}
 use Rattle.ckr_points_invariant.proofs.Steps.Walks.{at-before}
 use Rattle.ckr_points_invariant.proofs.Writes.Likeness.{bare, written_all-bare}
 use Rattle.ckr_desk_refines.specs.Standing.{StandsForStep}
+use Rattle.ckr_desk_refines.proofs.Durable.Units.{apart-there}
+use Rattle.ckr_desk_refines.proofs.Standing.Lengths.{bare-set}
 use Rattle.ckr_steps.specs.Inputs.{AreStored}
 use Rattle.ckr_steps.specs.Places.{ShowsWithin, IsStepPlace}
 use Rattle.ckr_steps.specs.Units.{AreServed}
@@ -46,9 +47,9 @@ use Rattle.ckr_desk_turn.specs.Desk.{DeskModel, DeskStep, start_of}
 use Rattle.ckr_base.specs.declared.code.Code.{Code}
 use Rattle.ckr_desk_turn.specs.Units.{arrived}
 use Rattle.ckr_volumes.specs.declared.layout.Layout.{Layout}
-use Rattle.ckr_volumes.specs.Places.{StretchModel, stretches_of, stretches_of_parts}
+use Rattle.ckr_volumes.specs.Places.{stretches_of_parts}
 use Rattle.ckr_volumes.specs.SamePlaces.{SamePlaces, lie_apart_turned}
-use Rattle.ckr_volumes.specs.Layouts.{StandsIn, all_apart, is_inside, lie_apart, lists_apart, sums_up}
+use Rattle.ckr_volumes.specs.Layouts.{StandsIn, all_apart, is_inside, lie_apart, sums_up}
 
 -- a running step in memory stands where its job comes to, or has stopped with a code, with its leg
 pub record IsLedStep (desk : DeskModel) (image : List ℕ) (on : RunningStepView) (step : DeskStep) : Type 0 where
@@ -133,22 +134,12 @@ stands-there layout one two stands same space fits = record {
   space_below = subst (λ n. n ≤ 1000000) (sym space) stands.space_below;
 }
 
-pub apart-there : (one two other : DataSet) → SamePlaces one two → IsTrue (lie_apart one other) → IsTrue (lie_apart two other)
-apart-there one two other same apart =
-    ap (λ (stretches : List StretchModel). lists_apart two.lrecl other.lrecl stretches (stretches_of other)) (ap stretches_of_parts same.parts)
-    ∙ ap (λ (lrecl : ℕ). lists_apart lrecl other.lrecl (stretches_of one) (stretches_of other)) same.lrecl
-    ∙ apart
-
 -- where two data sets lie apart, so do two in the same places
 pub both-apart : (one two first second : DataSet) → SamePlaces one first → SamePlaces two second → IsTrue (lie_apart one two) → IsTrue (lie_apart first second)
 both-apart one two first second here there apart =
     lie_apart_turned second first (apart-there two second first there (lie_apart_turned first two (apart-there one first two here apart)))
 
 -- ---- the data sets of a step
-
-bare-set : (shape : Shape) (entry : Option LibrarySet) → option_map (λ set. bare (set_shape set)) entry ≡ Some shape → (its : LibrarySet) × (entry ≡ Some its) × (bare (set_shape its) ≡ shape)
-bare-set shape None e = absurd (some-not-none shape (sym e))
-bare-set shape (Some set) e = (set, refl, same_Some (bare (set_shape set)) shape e)
 
 -- the data set that a step's writes leave under a name, beside that of the tables
 pub record HasModel (start : StepStart) (writes : ℕ) (name : Name) (table : TableSet) : Type 0 where

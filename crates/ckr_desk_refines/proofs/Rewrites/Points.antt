@@ -1,10 +1,9 @@
 -- The points of checkpoints in effect stand in memory for their entries behind a rewrite.
 use Rattle.std.proofs.Common.{◌≡◌, ◌&&◌, ℕ, true, false, List, refl, ap, sym, ◌∙◌, Option, Some, None}
-use Rattle.std.specs.Option.{option_map, option_map_or}
+use Rattle.std.specs.Option.{option_map_or}
 use Rattle.std.proofs.lemmas.Bool.{and_from}
-use Rattle.std.proofs.lemmas.Option.{same_Some}
 use Rattle.ckr_base.proofs.Bools.{and-first, and-second}
-use Rattle.ckr_base.proofs.Options.{some-not-none, some-one}
+use Rattle.ckr_base.proofs.Options.{some-one}
 use Rattle.ckr_library.specs.NameMaps.{Named}
 use Rattle.ckr_meaning.specs.EffectiveJob.{OwnedStep}
 use Rattle.ckr_points_library.specs.Commit.{output_names}
@@ -12,12 +11,13 @@ use Rattle.ckr_points.specs.Follows.{are_lengths, is_rewrite, is_running, is_wit
 use Rattle.ckr_points.specs.Office.{is_holder}
 use Rattle.ckr_points.specs.Restart.{kept_at, place_of}
 use Rattle.ckr_points.specs.Rows.{EffectPoint, KeptEntry, RunRow, TableSet, run_of}
-use Rattle.ckr_points.specs.Tables.{committed, effect_rewritten, is_updates, name_with_role, table_rewritten}
+use Rattle.ckr_points.specs.Tables.{committed, is_updates, name_with_role, table_rewritten}
 use Rattle.ckr_points_invariant.specs.Invariant.{step_now}
 use Rattle.ckr_points_invariant.proofs.Readiness.Runs.{kept-entry}
 use Rattle.ckr_points_invariant.proofs.WaitingRuns.{follows-of}
 use Rattle.ckr_desk_memory.specs.Invariant.{is_in_step}
 use Rattle.ckr_desk_memory.specs.View.{PointView, RunningStepView}
+use Rattle.ckr_desk_memory.proofs.Holders.Events.{rewritten-effect}
 use Rattle.ckr_desk_turn.specs.Desk.{DeskModel, start_of}
 use Rattle.ckr_desk_turn.specs.Invariant.{IsDesk}
 use Rattle.ckr_desk_refines.specs.Standing.{OwnStands, PointsStand}
@@ -27,11 +27,6 @@ use Rattle.ckr_desk_refines.proofs.Events.OtherRows.{LeavesRuns}
 use Rattle.ckr_desk_refines.proofs.Rewrites.Office.{next, next-at, other-at}
 use Rattle.ckr_desk_refines.proofs.Rewrites.Requests.{IsAsked, comes, event, leaves, lengths, row-at, then}
 use Rattle.ckr_desk_refines.proofs.Standing.Points.{by-effect, check-by, entry_in_effect, points-next}
-
--- an effect behind a rewrite was one before
-effect-before : {A : Type 0} (was : Option EffectPoint) (effect : EffectPoint) → option_map effect_rewritten was ≡ Some effect → ((old : EffectPoint) → was ≡ Some old → effect_rewritten old ≡ effect → A) → A
-effect-before None effect is use_it = absurd (some-not-none effect (sym is))
-effect-before (Some old) effect is use_it = use_it old refl (same_Some (effect_rewritten old) effect is)
 
 module _ (before after : List ℕ) (desk : DeskModel) (is : IsDesk desk) (run : ℕ) (on moved : RunningStepView) (place : ℕ) (image : List ℕ) (taken : ℕ) (asked : IsAsked before after desk run on moved place image taken) where
   abbrev row : RunRow
@@ -81,7 +76,7 @@ module _ (before after : List ℕ) (desk : DeskModel) (is : IsDesk desk) (run : 
         let running : is_in_step row ≡ true = and_from (is_holder row.state) (is_within (place_of row)) asked.led.running.holder.holds within_so in
         by-effect (then before after desk is run on moved place image taken asked).tables later entry found
         (λ effect got there.
-        effect-before row.in_effect effect (ap (λ (r : RunRow). r.in_effect) same ∙ got)
+        rewritten-effect row.in_effect effect (ap (λ (r : RunRow). r.in_effect) same ∙ got)
         (λ old was new.
         stand asked.step.run row entry start its_row running
         (ap (entry_in_effect desk.office.tables) was

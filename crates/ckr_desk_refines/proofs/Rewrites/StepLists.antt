@@ -89,7 +89,7 @@ out_of_others run other (step ∷ running) none =
     by true first rest = rest
     by false first rest = or_from (step.run == other) (is_of_one other (without_run run running)) first rest
 
-own_out : (run : ℕ) (running : List DeskStep) → is_of_one run (without_run run running) ≡ false
+pub own_out : (run : ℕ) (running : List DeskStep) → is_of_one run (without_run run running) ≡ false
 own_out run [] = refl
 own_out run (step ∷ running) = by (step.run == run) refl (own_out run running)
   where
@@ -97,7 +97,7 @@ own_out run (step ∷ running) = by (step.run == run) refl (own_out run running)
     by true is rest = rest
     by false is rest = or_from (step.run == run) (is_of_one run (without_run run running)) is rest
 
-others_differ : (run : ℕ) (running : List DeskStep) → differ running ≡ true → differ (without_run run running) ≡ true
+pub others_differ : (run : ℕ) (running : List DeskStep) → differ running ≡ true → differ (without_run run running) ≡ true
 others_differ run [] differs = refl
 others_differ run (step ∷ running) differs =
     by (step.run == run) (others_differ run running (and-second (not (is_of_one step.run running)) (differ running) differs))

@@ -40,7 +40,7 @@ in-sets catalog name set is = by (entry_at catalog.sets name) is
     by None e = absurd (some-not-none set (sym e))
     by (Some held) e = ap (λ (s : DataSet). s.length) (same_Some held.set set e)
 
-bare-set : (shape : Shape) (entry : Option LibrarySet) → option_map (λ set. bare (set_shape set)) entry ≡ Some shape → (its : LibrarySet) × (entry ≡ Some its) × (bare (set_shape its) ≡ shape)
+pub bare-set : (shape : Shape) (entry : Option LibrarySet) → option_map (λ set. bare (set_shape set)) entry ≡ Some shape → (its : LibrarySet) × (entry ≡ Some its) × (bare (set_shape its) ≡ shape)
 bare-set shape None e = absurd (some-not-none shape (sym e))
 bare-set shape (Some set) e = (set, refl, same_Some (bare (set_shape set)) shape e)
 

@@ -1,5 +1,5 @@
 -- The jobs in memory stand for the desk where a run waits with its code for the operator's word.
-use Rattle.std.proofs.Common.{◌≡◌, ℕ, Bool, true, false, cond, ◌&&◌, ◌||◌, not, List, [], ◌∷◌, refl, ap, sym, ◌∙◌, subst, Some}
+use Rattle.std.proofs.Common.{◌≡◌, ℕ, cond, ◌&&◌, ◌||◌, not, List, [], ◌∷◌, refl, ap, sym, ◌∙◌, subst, Some}
 use Rattle.std.specs.Prelude.{◌==◌}
 use Rattle.ckr_base.specs.declared.code.Code.{Code}
 use Rattle.ckr_base.proofs.Bools.{bool-cases}
@@ -10,7 +10,7 @@ use Rattle.ckr_points.specs.Office.{Office}
 use Rattle.ckr_volumes.specs.declared.layout.Layout.{Layout}
 use Rattle.ckr_desk_turn.specs.Desk.{DeskModel, DeskStep, coded_step, waiting, with_asked, with_code}
 use Rattle.ckr_desk_turn.specs.Units.{arrived}
-use Rattle.ckr_desk_turn.proofs.Waits.{stopped, waiting-kept}
+use Rattle.ckr_desk_turn.proofs.Waits.{stopped, waiting-kept, coded-run}
 use Rattle.ckr_desk_refines.specs.Moves.{HasWaited}
 use Rattle.ckr_desk_refines.specs.Standing.{AllStand, PointsStand, StandsForDesk, StandsForStep, differ, is_of_one}
 
@@ -53,13 +53,6 @@ module _ (layout : Layout) (office : Office) (image : List ℕ) (run : ℕ) (cod
   all-coded (on ∷ seen) (step ∷ running) all = (coded-stands on step all.0, all-coded seen running all.1)
 
 -- ---- they are of the same runs
-
-coded-run : (run : ℕ) (code : Code) (step : DeskStep) → (coded_step run code step).run ≡ step.run
-coded-run run code step = by (step.run == run)
-  where
-    by : (b : Bool) → (cond b (stopped step code) step).run ≡ step.run
-    by true = refl
-    by false = refl
 
 coded-one : (run : ℕ) (code : Code) (number : ℕ) (running : List DeskStep) → is_of_one number (with_code run code running) ≡ is_of_one number running
 coded-one run code number [] = refl

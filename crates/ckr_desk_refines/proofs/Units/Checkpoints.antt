@@ -20,7 +20,8 @@ use Rattle.ckr_volumes.specs.declared.layout.Layout.{Layout}
 use Rattle.ckr_desk_refines.proofs.Standing.Served.{changed-first, checkpoint-stands, served-first}
 use Rattle.ckr_desk_refines.proofs.Units.DueUnits.{IsDue, due-there, is-due}
 use Rattle.ckr_desk_refines.proofs.Units.Plans.{asked_in}
-use Rattle.ckr_desk_refines.proofs.Units.StepLists.{IsPair, differ-put, others-stay, pair-of, seen-of}
+use Rattle.ckr_desk_refines.proofs.Units.StepLists.{IsPair, others-stay, pair-of, seen-of}
+use Rattle.ckr_desk_refines.proofs.Rewrites.StepLists.{put-differ}
 
 -- a turn that passes keeps the desk
 pass-keeps : (desk : DeskModel) (turn : MountedTurn) (run : ℕ) (reply : Reply) → (answer : Answer) → Keeps desk (turn_of desk turn answer) → plan_for desk.layout (jobs_of desk) turn ≡ Pass run reply → Keeps desk (done_by (Pass run reply) desk)
@@ -78,7 +79,7 @@ module _ (layout : Layout) (old new : JobsView) (image : List ℕ) (desk : DeskM
     running =
         subst (λ (running : List DeskStep). AllStand desk.layout desk.office image new.running running) (sym changed)
         (subst (λ (seen : List RunningStepView). AllStand desk.layout desk.office image seen (own ∷ without_run run desk.running)) (sym (passed.running ∙ served-first run on old.running there.1)) all-stand);
-    differ_so = ap (λ (running : List DeskStep). differ running) changed ∙ differ-put own desk.running stands.differ_so;
+    differ_so = ap (λ (running : List DeskStep). differ running) changed ∙ put-differ own desk.running stands.differ_so;
     points = subst (PointsStand desk.office) (sym passed.points) stands.points;
     committed = stands.committed;
   }

@@ -1,6 +1,6 @@
 -- A unit by which a step ends with a code: what the desk tells, and what stands until its run ends, or is restarted, in memory too.
 use Rattle.std.proofs.Common.{◌≡◌, ◌≤◌, ◌<◌, ℕ, Bool, true, false, not, cond, List, ◌∷◌, length, refl, ap, sym, ◌∙◌, subst, Some, None, arith}
-use Rattle.std.specs.Prelude.{◌==◌, if◌then◌else◌}
+use Rattle.std.specs.Prelude.{◌==◌}
 use Rattle.std.specs.Option.{is_some, option_map_or}
 use Rattle.std.proofs.lemmas.Option.{same_Some}
 use Rattle.arrayvec.specs.ArrayVec.{ArrayVec}
@@ -9,7 +9,6 @@ use Rattle.ckr_console.specs.declared.question.Answer.{Answer}
 use Rattle.ckr_console.specs.declared.question.Answer.TheVariants.{Yes, No, Hold, Silent}
 use Rattle.ckr_base.proofs.Numbers.{equal-itself}
 use Rattle.ckr_base.proofs.Options.{some-not-none}
-use Rattle.ckr_base.proofs.Sequences.{filter-twice}
 use Rattle.ckr_events.specs.declared.event.Event.{Event}
 use Rattle.ckr_events.specs.declared.event.Event.TheVariants.{Ended as EndedEvent, Held as HeldEvent, Restarted as RestartedEvent}
 use Rattle.ckr_events.specs.declared.event.Ending.{Ending}
@@ -32,15 +31,15 @@ use Rattle.ckr_desk_refines.specs.Standing.{AllStand, PointsStand, StandsBut, se
 use Rattle.ckr_steps.specs.declared.step_run.Worked.TheVariants.{Abend}
 use Rattle.ckr_steps.specs.Places.{EndsSo}
 use Rattle.ckr_desk_turn.specs.Codes.{CodePlaceModel, code_plan, initiator_of, inquiry_of, running_reached}
-use Rattle.ckr_desk_turn.specs.Desk.{DeskModel, DeskStep, TurnDone, answered, at_entry, behind, done_by, seen, unit_done, with_progress, without_run, work_of}
-use Rattle.ckr_desk_turn.specs.Inquiries.{awaits, decided}
+use Rattle.ckr_desk_turn.specs.Desk.{DeskModel, DeskStep, TurnDone, answered, at_entry, behind, done_by, seen, unit_done, with_progress, work_of}
+use Rattle.ckr_desk_turn.specs.Inquiries.{decided}
 use Rattle.ckr_desk_turn.specs.Jobs.{effect_entry}
 use Rattle.ckr_desk_turn.specs.declared.inquiry.Inquiry.{Inquiry}
 use Rattle.ckr_desk_turn.specs.declared.plan.Plan.{Plan}
-use Rattle.ckr_desk_turn.specs.declared.plan.Plan.TheVariants.{Rest, Wait}
-use Rattle.ckr_points.specs.declared.reply.Reply.TheVariants.{AwaitingReply}
 use Rattle.ckr_desk_turn.specs.Turns.{MountedTurn}
 use Rattle.ckr_desk_turn.specs.Units.{StepProgress, unit_end}
+use Rattle.ckr_desk_turn.proofs.Units.Invariant.{without-moved}
+use Rattle.ckr_desk_turn.proofs.Turns.Operator.{silent-tells}
 use Rattle.ckr_volumes.specs.declared.layout.Layout.{Layout}
 use Rattle.ckr_desk_refines.specs.Unit.{IsPutBack, StandsBehindUnit}
 use Rattle.ckr_desk_refines.proofs.Units.Desk.{committed-so, did-so, each-stays, goes-so, pair, row-at, run-moved, shows-at, stands-at, unclosed, uncoded, unwaiting, work-is}
@@ -50,11 +49,6 @@ use Rattle.ckr_desk_refines.proofs.Units.StepLists.{IsPair, all-stay, without-fi
 use Rattle.ckr_desk_refines.proofs.Units.OtherSteps.{same-start}
 use Rattle.ckr_desk_refines.proofs.Units.OwnStep.{own-sets}
 use Rattle.ckr_desk_refines.proofs.Units.Replies.{TellsSo, lengths-behind, moved-plain, plan_at, seen-behind, told-so}
-
-without-moved : (run : ℕ) (progress : StepProgress) (running : List DeskStep) → without_run run (record { run = run; progress = progress; code = None } ∷ without_run run running) ≡ without_run run running
-without-moved run progress running =
-    ap (λ b. cond (not b) (record { run = run; progress = progress; code = None } ∷ without_run run (without_run run running)) (without_run run (without_run run running))) (equal-itself run)
-    ∙ filter-twice (λ (step : DeskStep). not (step.run == run)) running
 
 -- behind the end of its run it doesn't matter how far the step had come
 behind-moved : (run : ℕ) (ending : Ending) (progress : StepProgress) (desk : DeskModel) → behind (EndedEvent run ending) None (with_progress run progress desk) ≡ behind (EndedEvent run ending) None desk
@@ -74,14 +68,6 @@ behind-held : (run writes : ℕ) (code : Code) (lengths : ArrayVec ℕ) (progres
 behind-held run writes code lengths progress desk =
     ap (λ (running : List DeskStep). record (behind (HeldEvent run code writes lengths) None desk) { running = running }) (without-moved run progress desk.running)
 
--- where the operator doesn't answer no event is told
-silent-none : (inquiry : Inquiry) (desk : DeskModel) → (done_by (awaits inquiry) desk).event ≡ None
-silent-none inquiry desk = by inquiry.lodged
-  where
-    by : (b : Bool) → (done_by (if b then Wait inquiry.job inquiry.code else Rest AwaitingReply) desk).event ≡ None
-    by true = refl
-    by false = refl
-
 asked-behind : (answer : Answer) (inquiry : Inquiry) (progress : StepProgress) (desk : DeskModel) (event : Event) → (done_by (decided answer inquiry) (with_progress inquiry.job progress desk)).event ≡ Some event
     → (done_by (decided answer inquiry) (with_progress inquiry.job progress desk)).desk ≡ behind event None desk
 asked-behind Yes inquiry progress desk event is =
@@ -90,7 +76,7 @@ asked-behind No inquiry progress desk event is =
     behind-moved inquiry.job (CodedEnding inquiry.code (rule_number A6) inquiry.writes inquiry.lengths) progress desk ∙ ap (λ (e : Event). behind e None desk) (same_Some _ event is)
 asked-behind Hold inquiry progress desk event is =
     behind-held inquiry.job inquiry.writes inquiry.code inquiry.lengths progress desk ∙ ap (λ (e : Event). behind e None desk) (same_Some _ event is)
-asked-behind Silent inquiry progress desk event is = absurd (some-not-none event (sym is ∙ silent-none inquiry (with_progress inquiry.job progress desk)))
+asked-behind Silent inquiry progress desk event is = absurd (some-not-none event (sym is ∙ silent-tells inquiry (with_progress inquiry.job progress desk)))
 
 -- nor behind any of them, whatever the rules say of the code
 code-behind : (answer : Answer) (layout : Layout) (tables : TablesModel) (row : RunRow) (initiator : ℕ) (lodged : Bool) (code : Code) (reached : CodePlaceModel) (progress : StepProgress) (desk : DeskModel) (event : Event)

@@ -23,9 +23,10 @@ use Rattle.ckr_volumes.specs.declared.layout.Layout.{Layout}
 use Rattle.ckr_desk_refines.specs.Unit.{IsPutBack, StandsBehindUnit}
 use Rattle.ckr_desk_refines.proofs.Units.Outcomes.{end-went, further_at, open_at}
 use Rattle.ckr_desk_refines.proofs.Units.RunningStep.{number-found, pair-found, progress-found, row-found, shows-found, stands-found, unclosed-found, uncoded-found, unwaiting-found, work-found}
-use Rattle.ckr_desk_refines.proofs.Units.StepLists.{IsPair, differ-put, others-stay}
+use Rattle.ckr_desk_refines.proofs.Units.StepLists.{IsPair, others-stay}
 use Rattle.ckr_desk_refines.proofs.Units.OtherSteps.{other-stays}
 use Rattle.ckr_desk_refines.proofs.Units.OwnStep.{own-stands}
+use Rattle.ckr_desk_refines.proofs.Rewrites.StepLists.{put-differ}
 
 module _ (layout : Layout) (old : JobsView) (before after : List ℕ) (desk : DeskModel) (turn : MountedTurn) (run : ℕ) (on moved : RunningStepView) (worked : Worked) (unit : StandsBehindUnit layout old before after desk turn run on moved worked) where
   pub its-desk : IsDesk desk
@@ -151,7 +152,7 @@ module _ (layout : Layout) (old : JobsView) (before after : List ℕ) (desk : De
         tables = back.tables ∙ unit.stands.tables;
         failed = back.failed ∙ unit.stands.failed;
         running = subst (λ (seen : List RunningStepView). AllStand desk.layout desk.office after seen later.running) (sym back.running) running-so;
-        differ_so = differ-put (put_step p.stands.row.number) desk.running unit.stands.differ_so;
+        differ_so = put-differ (put_step p.stands.row.number) desk.running unit.stands.differ_so;
         points = subst (PointsStand desk.office) (sym back.points) unit.stands.points;
         committed = committed-so layout old before after desk turn run on moved (Went taken) unit before after unit.stands.committed unit.keeps;
       })

@@ -1,5 +1,5 @@
 -- The event of a unit is foretold by the answer to the unit, before it is done.
-use Rattle.std.proofs.Common.{◌≡◌, ◌≤◌, ℕ, ◌+◌, ◌*◌, ◌++◌, Bool, true, false, List, [], ◌∷◌, length, find, refl, ap, sym, ◌∙◌, subst, Option, Some, None, arith, length-append}
+use Rattle.std.proofs.Common.{◌≡◌, ◌≤◌, ℕ, ◌+◌, ◌*◌, ◌++◌, Bool, true, false, List, [], length, find, refl, ap, sym, ◌∙◌, subst, Option, Some, None, arith, length-append}
 use Rattle.std.proofs.lemmas.List.{length-map}
 use Rattle.std.specs.Prelude.{if◌then◌else◌}
 use Rattle.std.specs.Int.{w16, w32, to_be_bytes}
@@ -61,6 +61,7 @@ use Rattle.ckr_desk_turn.specs.Turns.{MountedTurn, plan_for}
 use Rattle.ckr_desk_turn.specs.Desk.{DeskModel, TurnDone, jobs_of, seen, seen_from, with_progress, work_of}
 use Rattle.ckr_desk_turn.specs.Jobs.{TurnStep, as_stopped, effect_entry}
 use Rattle.ckr_desk_turn.specs.Units.{StepProgress, finished_by, unit_end}
+use Rattle.ckr_desk_turn.proofs.Spelling.{lengths_long}
 use Rattle.ckr_volumes.specs.declared.layout.Layout.{Layout}
 use Rattle.ckr_desk_refines.specs.Forecast.{IsAsForetold, IsTold}
 use Rattle.ckr_desk_refines.specs.Unit.{StandsBehindUnit}
@@ -75,23 +76,19 @@ use Rattle.ckr_desk_refines.proofs.Units.AnyReply.{told-unit}
 
 -- ---- events with as many lengths have as many bytes
 
-lengths-long : (lengths : List ℕ) → length (length_list.spell lengths) ≡ 1 + 4 * length lengths
-lengths-long [] = refl
-lengths-long (first ∷ rest) = omega (arith, lengths-long rest)
-
 rewritten-long : (run taken writes place : ℕ) (lengths image : List ℕ) → length (spelling (RewrittenEvent run taken writes (record { items = lengths }) place image)) ≡ 20 + 4 * length lengths + length image
 rewritten-long run taken writes place lengths image =
-    omega (arith, lengths-long lengths, length-append (length_list.spell lengths) (to_be_bytes w32 place ++ (to_be_bytes w16 (length image) ++ image)))
+    omega (arith, lengths_long lengths, length-append (length_list.spell lengths) (to_be_bytes w32 place ++ (to_be_bytes w16 (length image) ++ image)))
 
 coded-long : (run writes others rule : ℕ) (code : Code) (one two : List ℕ) → length one ≡ length two
     → length (spelling (EndedEvent run (Coded code rule others (record { items = two })))) ≡ length (spelling (EndedEvent run (Coded code rule writes (record { items = one }))))
-coded-long run writes others rule (System number) one two same = omega (arith, same, lengths-long one, lengths-long two)
-coded-long run writes others rule (User number) one two same = omega (arith, same, lengths-long one, lengths-long two)
+coded-long run writes others rule (System number) one two same = omega (arith, same, lengths_long one, lengths_long two)
+coded-long run writes others rule (User number) one two same = omega (arith, same, lengths_long one, lengths_long two)
 
 held-long : (run writes others : ℕ) (code : Code) (one two : List ℕ) → length one ≡ length two
     → length (spelling (HeldEvent run code others (record { items = two }))) ≡ length (spelling (HeldEvent run code writes (record { items = one })))
-held-long run writes others (System number) one two same = omega (arith, same, lengths-long one, lengths-long two)
-held-long run writes others (User number) one two same = omega (arith, same, lengths-long one, lengths-long two)
+held-long run writes others (System number) one two same = omega (arith, same, lengths_long one, lengths_long two)
+held-long run writes others (User number) one two same = omega (arith, same, lengths_long one, lengths_long two)
 
 -- an event where there is one, and none where there is none
 abbrev pub BothTell : Option Event → Option Event → Type 0

@@ -1,5 +1,5 @@
 -- A unit that rewrites a record: what the desk tells of it.
-use Rattle.std.proofs.Common.{◌≡◌, ◌≤◌, ℕ, suc, ◌+◌, Bool, true, false, ◌&&◌, List, [], ◌∷◌, length, refl, ap, sym, ◌∙◌, subst, Option, Some, None, arith}
+use Rattle.std.proofs.Common.{◌≡◌, ◌≤◌, ℕ, suc, ◌+◌, Bool, true, false, List, [], ◌∷◌, length, refl, ap, sym, ◌∙◌, subst, Option, Some, None, arith}
 use Rattle.std.specs.Prelude.{option_and_then, slice_get}
 use Rattle.std.specs.List.{list_all}
 use Rattle.std.specs.Option.{is_some, option_map, option_map_or}
@@ -9,7 +9,7 @@ use Rattle.ckr_points_library.specs.Commit.{output_names}
 use Rattle.ckr_base.specs.declared.programs.Finish.{Finish}
 use Rattle.ckr_base.specs.declared.programs.Finish.TheVariants as Finishes
 use Rattle.ckr_base.specs.declared.programs.Output.{Output}
-use Rattle.ckr_base.specs.declared.programs.Output.TheVariants.{Main, Rejects, InPlace}
+use Rattle.ckr_base.specs.declared.programs.Output.TheVariants.{InPlace}
 use Rattle.ckr_base.specs.declared.programs.Write.{Write}
 use Rattle.ckr_points_invariant.specs.RunningSteps.{IsRunning, its_start}
 use Rattle.ckr_base.proofs.Options.{some-not-none}
@@ -25,7 +25,6 @@ use Rattle.ckr_desk_turn.proofs.NextEvents.WithinStep.{by-step}
 use Rattle.ckr_library.specs.Catalog.{Catalog}
 use Rattle.ckr_library.specs.declared.sets.Content.{Content}
 use Rattle.ckr_library.specs.declared.sets.Content.TheVariants.{Plain}
-use Rattle.ckr_library.specs.declared.sets.DataSet.{DataSet}
 use Rattle.ckr_library.specs.NameMaps.{Name, Named, entry_at}
 use Rattle.ckr_library.proofs.Named.{name-itself}
 use Rattle.ckr_meaning.proofs.WriteSeries.{written_all-append}
@@ -42,7 +41,7 @@ use Rattle.ckr_points.specs.Restart.{place_of, step_in}
 use Rattle.ckr_points.specs.Rows.{RunRow, TableSet, run_of, step_of_run}
 use Rattle.ckr_points_invariant.proofs.Steps.Commits.{formed_step, place_so}
 use Rattle.ckr_points_invariant.proofs.Rewrite.Invariant.{rewritten-long, updated-name}
-use Rattle.ckr_steps.proofs.UnitProgress.{so_far_written}
+use Rattle.ckr_steps.proofs.UnitProgress.{so_far_written, no_rewrite}
 use Rattle.ckr_steps.proofs.NextHeads.{IsNamed, among_names, set_found, source_named}
 use Rattle.ckr_steps.proofs.NextUnits.{taken_is}
 use Rattle.ckr_steps.proofs.Writes.{Kinds, go_behind, rewrites}
@@ -54,7 +53,7 @@ use Rattle.ckr_steps.specs.Files.{files_of, set_of_source}
 use Rattle.ckr_steps.specs.Places.{IsPlain, IsToRewrite, ShowsWithin, IsStepPlace, names_at}
 use Rattle.ckr_steps.specs.StepUnit.{HasWorked, unit_for, writes_for}
 use Rattle.ckr_steps.specs.Units.{state_of, taken_of}
-use Rattle.ckr_steps.specs.Writes.{IsShown, is_behind, rewrite_first, rewrite_in, rewrite_of, room_of, worked_by}
+use Rattle.ckr_steps.specs.Writes.{IsShown, is_behind, rewrite_of, room_of, worked_by}
 use Rattle.ckr_desk_turn.specs.Desk.{DeskModel, jobs_of, unit_done, with_progress, work_of}
 use Rattle.ckr_desk_turn.specs.declared.plan.Plan.{Plan}
 use Rattle.ckr_desk_turn.specs.declared.plan.Plan.TheVariants.{Tell}
@@ -92,16 +91,6 @@ by-rewrite taken now place bytes None true (Some (Finishes.Abend code)) e use_it
 by-rewrite taken now place bytes None true (Some (Finishes.Returned rc)) e use_it = absurd (false≢true (ap rewriting e))
 by-rewrite taken now place bytes None true None e use_it = absurd (false≢true (ap rewriting e))
 
-no-rewrite : (set : Option DataSet) (writes : List Write) → list_all is_behind writes ≡ true → rewrite_first set writes ≡ None
-no-rewrite set [] all = refl
-no-rewrite set (write ∷ writes) all = by set write.output write.image all
-  where
-    by : (set : Option DataSet) (output : Output) (image : List ℕ) → (is_behind (record { output = output; image = image }) && list_all is_behind writes) ≡ true → rewrite_in set output image ≡ None
-    by None output image all = refl
-    by (Some set) Main image all = refl
-    by (Some set) Rejects image all = refl
-    by (Some set) (InPlace place) image all = absurd (false≢true all)
-
 first-one : (write : Write) (place : ℕ) → write.output ≡ InPlace place → first_rewrite (write ∷ []) ≡ Some (place, write.image)
 first-one write place goes =
     ap (λ (output : Output). let one : Write = record { output = output; image = write.image } in first_rewrite (one ∷ [])) goes
@@ -128,7 +117,7 @@ module _ (before after : List ℕ) (layout : Layout) (start : StepStart) (taken 
 
   behind-none : list_all is_behind (writes_for old did.heads) ≡ true → rewrite_of library old.files (writes_for old did.heads) ≡ None
   unfolding rewrite_of
-  behind-none behind = no-rewrite _ (writes_for old did.heads) behind
+  behind-none behind = no_rewrite _ (writes_for old did.heads) behind
 
   goes-on : (at : ℕ × List ℕ) → rewrite_of library old.files (writes_for old did.heads) ≡ Some at → {first : ℕ} → Kinds (case_at start).program (unit_for old did.heads).finish first (writes_for old did.heads) → (unit_for old did.heads).finish ≡ None
   goes-on at some (go_behind behind) = absurd (none-behind (behind-none behind) at some)

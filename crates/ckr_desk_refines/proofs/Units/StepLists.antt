@@ -2,7 +2,7 @@
 use Rattle.std.proofs.Common.{◌≡◌, ◌≢◌, ℕ, true, false, cond, not, List, [], ◌∷◌, find, refl, ap, sym, ◌∙◌, subst, Some}
 use Rattle.std.specs.Prelude.{◌==◌}
 use Rattle.std.specs.List.{AllByRecursion}
-use Rattle.std.proofs.lemmas.Bool.{and_from, false≢true, not-true, or_from, or_parts}
+use Rattle.std.proofs.lemmas.Bool.{false≢true, not-true, or_from, or_parts}
 use Rattle.std.proofs.lemmas.Option.{same_Some}
 use Rattle.ckr_base.proofs.Bools.{and-first, and-second, bool-cases}
 use Rattle.ckr_base.proofs.Numbers.{equal-itself, equal-true}
@@ -124,15 +124,6 @@ without-first run (on ∷ seen) =
     ∙ ap (λ rest. on ∷ rest) (without-first run seen)
     ∙ sym (ap (λ b. cond (not b) (on ∷ seen_without run seen) (seen_without run seen)) there))
 
-none-of : (run : ℕ) (running : List DeskStep) → is_of_one run (without_run run running) ≡ false
-none-of run [] = refl
-none-of run (step ∷ running) =
-    bool-cases (step.run == run)
-    (λ here. ap (λ b. is_of_one run (cond (not b) (step ∷ without_run run running) (without_run run running))) here ∙ none-of run running)
-    (λ there.
-    ap (λ b. is_of_one run (cond (not b) (step ∷ without_run run running) (without_run run running))) there
-    ∙ or_from (step.run == run) (is_of_one run (without_run run running)) there (none-of run running))
-
 none-less : (number run : ℕ) (running : List DeskStep) → is_of_one number running ≡ false → is_of_one number (without_run run running) ≡ false
 none-less number run [] none = refl
 none-less number run (step ∷ running) none =
@@ -142,18 +133,3 @@ none-less number run (step ∷ running) none =
     (λ there.
     ap (λ b. is_of_one number (cond (not b) (step ∷ without_run run running) (without_run run running))) there
     ∙ or_from (step.run == number) (is_of_one number (without_run run running)) parts.0 (none-less number run running parts.1))
-
-differ-less : (run : ℕ) (running : List DeskStep) → differ running ≡ true → differ (without_run run running) ≡ true
-differ-less run [] differs = refl
-differ-less run (step ∷ running) differs =
-    let rest : differ (without_run run running) ≡ true = differ-less run running (and-second (not (is_of_one step.run running)) (differ running) differs) in
-    let none : is_of_one step.run running ≡ false = not-true (is_of_one step.run running) (and-first (not (is_of_one step.run running)) (differ running) differs) in
-    bool-cases (step.run == run)
-    (λ here. ap (λ b. differ (cond (not b) (step ∷ without_run run running) (without_run run running))) here ∙ rest)
-    (λ there.
-    ap (λ b. differ (cond (not b) (step ∷ without_run run running) (without_run run running))) there
-    ∙ and_from (not (is_of_one step.run (without_run run running))) (differ (without_run run running)) (ap not (none-less step.run run running none)) rest)
-
-pub differ-put : (step : DeskStep) (running : List DeskStep) → differ running ≡ true → differ (step ∷ without_run step.run running) ≡ true
-differ-put step running differs =
-    and_from (not (is_of_one step.run (without_run step.run running))) (differ (without_run step.run running)) (ap not (none-of step.run running)) (differ-less step.run running differs)

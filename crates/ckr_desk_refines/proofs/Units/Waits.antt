@@ -27,7 +27,8 @@ use Rattle.ckr_desk_refines.proofs.Standing.Waits.{all-coded, coded-differ, stop
 use Rattle.ckr_desk_refines.proofs.Units.Codes.{coded-done, ends, its_progress, plan-so}
 use Rattle.ckr_desk_refines.proofs.Units.Desk.{committed-so, did-so, each-stays, numbered, pair, row-at, run-moved, uncoded, work-kept}
 use Rattle.ckr_desk_refines.proofs.Units.OwnStep.{own-checked, own-named, own-sets}
-use Rattle.ckr_desk_refines.proofs.Units.StepLists.{IsPair, differ-put, others-stay}
+use Rattle.ckr_desk_refines.proofs.Units.StepLists.{IsPair, others-stay}
+use Rattle.ckr_desk_refines.proofs.Rewrites.StepLists.{put-differ}
 
 module _ (layout : Layout) (old : JobsView) (before after : List ℕ) (desk : DeskModel) (turn : MountedTurn) (run : ℕ) (on moved : RunningStepView) (code : Code) (answer : Answer) (unit : StandsBehindUnit layout old before after desk turn run on moved (Abend code)) where
   abbrev p : IsPair desk.layout desk.office before run on desk.running
@@ -101,7 +102,7 @@ module _ (layout : Layout) (old : JobsView) (before after : List ℕ) (desk : De
         failed = has.failed ∙ ap (with_asked run) (back.failed ∙ unit.stands.failed);
         running =
             subst (λ (seen : List RunningStepView). AllStand desk.layout desk.office after seen later.running) (sym (has.running ∙ ap (with_code_in_memory run code) back.running)) all-stand;
-        differ_so = coded-differ run code (first ∷ without_run run desk.running) ∙ differ-put first desk.running unit.stands.differ_so;
+        differ_so = coded-differ run code (first ∷ without_run run desk.running) ∙ put-differ first desk.running unit.stands.differ_so;
         points = subst (PointsStand desk.office) (sym (has.points ∙ back.points)) unit.stands.points;
         committed = committed-so layout old before after desk turn run on moved (Abend code) unit before after unit.stands.committed unit.keeps;
       })

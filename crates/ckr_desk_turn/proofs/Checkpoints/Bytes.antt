@@ -24,7 +24,7 @@ use Rattle.ckr_desk_turn.specs.Units.{StepProgress}
 
 -- ---- marks, seen as the numbers of their bytes
 
-abbrev size_of : Mark → ℕ
+abbrev pub size_of : Mark → ℕ
 size_of m = length ((mark None).spell m)
 
 -- what a data set adds to its mark
@@ -82,17 +82,17 @@ module _ (row : RunRow) (one other : Named TableSet) (same : SameSizes one other
 
 -- ---- all marks
 
-abbrev sum_sizes : Named ℕ → ℕ
+abbrev pub sum_sizes : Named ℕ → ℕ
 sum_sizes [] = 0
 sum_sizes (first ∷ rest) = first.1 + sum_sizes rest
 
-each-sizes : (named : Named Mark) → length (spell_each (mark None).spell (map (λ entry. entry.1) named)) ≡ sum_sizes (viewed size_of named)
+pub each-sizes : (named : Named Mark) → length (spell_each (mark None).spell (map (λ entry. entry.1) named)) ≡ sum_sizes (viewed size_of named)
 each-sizes [] = refl
 each-sizes (first ∷ rest) =
     length-append ((mark None).spell first.1) (spell_each (mark None).spell (map (λ entry. entry.1) rest))
     ∙ ap (λ n. size_of first.1 + n) (each-sizes rest)
 
-marks-size : (named : Named Mark) → length (marks.spell (map (λ entry. entry.1) named)) ≡ 2 + sum_sizes (viewed size_of named)
+pub marks-size : (named : Named Mark) → length (marks.spell (map (λ entry. entry.1) named)) ≡ 2 + sum_sizes (viewed size_of named)
 marks-size named =
     length-append (to_be_bytes w16 (length (map (λ entry. entry.1) named))) (spell_each (mark None).spell (map (λ entry. entry.1) named))
     ∙ ap (λ n. 2 + n) (each-sizes named)

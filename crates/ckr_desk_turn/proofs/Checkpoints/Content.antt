@@ -30,6 +30,7 @@ use Rattle.ckr_points.specs.Payload.{is_formed_step}
 use Rattle.ckr_points.specs.Tables.{is_checkpoints}
 use Rattle.ckr_points_invariant.proofs.Library.Likeness.{placed-apart}
 use Rattle.ckr_points_invariant.proofs.Start.Openings.{opened-known}
+use Rattle.ckr_points_invariant.proofs.StepEnd.Disposals.{no_flaw}
 use Rattle.ckr_desk_turn.proofs.Rewrite.Masters.{flawless-dd}
 use Rattle.ckr_desk_turn.proofs.Units.Outputs.{distinct-step, within_at-parts}
 
@@ -41,9 +42,6 @@ checks-on Writes e = absurd (false≢true e)
 checks-on Updates e = absurd (false≢true e)
 checks-on ChecksOn e = refl
 checks-on Unused e = absurd (false≢true e)
-
-no_flaw : {A : Type 0} (flaw : FlawModel) → flaw_in (refused flaw) ≡ None → A
-no_flaw flaw e = absurd (some-not-none flaw e)
 
 kind-here : (content : Content) → flaw_in (if is_wrong_kind ChecksOn content then refused wrong_kind else found) ≡ None → content ≡ Checkpoints
 kind-here Plain e = no_flaw wrong_kind e

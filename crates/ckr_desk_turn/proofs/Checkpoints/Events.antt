@@ -58,7 +58,7 @@ use Rattle.ckr_desk_turn.proofs.StepEnd.{by-changed}
 use Rattle.ckr_desk_turn.proofs.Units.Outputs.{IsOutput, each_output}
 use Rattle.ckr_desk_turn.proofs.Checkpoints.Bytes.{spelling-some}
 
-checks-output : (role : Role) → is_checkpoints role ≡ true → is_output role ≡ true
+pub checks-output : (role : Role) → is_checkpoints role ≡ true → is_output role ≡ true
 checks-output Reads e = absurd (false≢true e)
 checks-output Writes e = absurd (false≢true e)
 checks-output Updates e = absurd (false≢true e)
@@ -73,7 +73,7 @@ pub record IsCheckDd (start : StepStart) (set : Name) : Type 0 where
   pub at : find (λ one. is_checkpoints one.role) start.owned.step.dds ≡ Some dd
   pub has : name_of start.root start.owned dd ≡ Some set
 
-check-dd : (start : StepStart) (set : Name) → check_set start ≡ Some set → IsCheckDd start set
+pub check-dd : (start : StepStart) (set : Name) → check_set start ≡ Some set → IsCheckDd start set
 check-dd start set is =
     option-cases (find (λ one. is_checkpoints one.role) start.owned.step.dds)
     (λ none. absurd (some-not-none set (sym is ∙ ap (option_and_then (name_of start.root start.owned)) none)))

@@ -6,7 +6,7 @@ use Rattle.std.proofs.lemmas.Bool.{and_from, false≢true, or_left, or_right}
 use Rattle.ckr_base.proofs.Bools.{bool-cases}
 use Rattle.ckr_base.proofs.Numbers.{equal-itself, nat_le-from}
 use Rattle.ckr_library.specs.declared.sets.Content.{Content}
-use Rattle.ckr_library.specs.declared.sets.Content.TheVariants.{Plain, Checkpoints}
+use Rattle.ckr_library.specs.declared.sets.Content.TheVariants.{Checkpoints}
 use Rattle.ckr_library.specs.NameMaps.{Name, Named, entry_at, same_name}
 use Rattle.ckr_library.proofs.Named.{name-itself, name-turned}
 use Rattle.ckr_meaning.specs.EffectiveJob.{is_among}
@@ -14,7 +14,7 @@ use Rattle.ckr_meaning.specs.LibrarySet.{Library}
 use Rattle.ckr_points.specs.Follows.{are_lengths, is_length_of}
 use Rattle.ckr_points.specs.Payload.{have_lengths, is_length, length_by, length_now, records_under}
 use Rattle.ckr_points.specs.Rows.{TableSet}
-use Rattle.ckr_desk_turn.proofs.Units.Outputs.{IsOutput}
+use Rattle.ckr_desk_turn.proofs.Units.Outputs.{IsOutput, is_now}
 
 -- a data set for checkpoints, with the length behind an entry
 pub record HasRoom (sets : Named TableSet) (most : ℕ) (name : Name) : Type 0 where
@@ -23,10 +23,6 @@ pub record HasRoom (sets : Named TableSet) (most : ℕ) (name : Name) : Type 0 w
   pub low : table.set.length ≤ most
   pub high : most ≤ table.set.space
   pub content : table.set.content ≡ Checkpoints
-
-is_now : (content : Content) (table : TableSet) (most : ℕ) → is_length content most (length_by content table most) ≡ true
-is_now Plain table most = equal-itself most
-is_now Checkpoints table most = refl
 
 module _ (library : Library) (sets : Named TableSet) (is_check : Name → Bool) (most : ℕ) where
   abbrev pub now_at : Name → ℕ

@@ -74,7 +74,7 @@ denied-keeps desk is row rule name at queued comes =
 
 -- ---- a run goes on with an earlier one
 
-leg-number : (office : Office) (row : RunRow) (earlier : ℕ) → (leg_by office row earlier).number ≡ row.number
+pub leg-number : (office : Office) (row : RunRow) (earlier : ℕ) → (leg_by office row earlier).number ≡ row.number
 leg-number office row zero = refl
 leg-number office row (suc before) = by (leg_of office (suc before))
   where

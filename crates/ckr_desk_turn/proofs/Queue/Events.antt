@@ -29,7 +29,7 @@ use Rattle.ckr_desk_turn.specs.Queue.{entry_of, queue_of, queue_state, AreNumber
 use Rattle.ckr_desk_turn.proofs.Queue.Changes.{moved, left, stayed}
 
 -- a run at its place has the number of it
-number_at : (rows : List RunRow) (from place : ℕ) (row : RunRow) → AreNumbered from rows → slice_get rows place ≡ Some row → row.number ≡ from + place
+pub number_at : (rows : List RunRow) (from place : ℕ) (row : RunRow) → AreNumbered from rows → slice_get rows place ≡ Some row → row.number ≡ from + place
 number_at [] from place row numbered at = cc
 number_at (first ∷ rows) from zero row numbered at = ap (λ (r : RunRow). r.number) (sym (same_Some _ _ at)) ∙ numbered.0 ∙ omega arith
 number_at (first ∷ rows) from (suc place) row numbered at = number_at rows (suc from) place row numbered.1 at ∙ omega arith

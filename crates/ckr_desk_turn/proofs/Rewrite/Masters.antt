@@ -32,7 +32,7 @@ use Rattle.ckr_meaning.specs.EffectiveJob.{OwnedStep, flaw_in, flaws_in, name_of
 use Rattle.ckr_meaning.specs.StepRun.{StepStart, changed_in, dd_named, extended, input_at, input_names, output_dd, output_name, placed_at, records_in, records_of_origin, written_all, written_one, written_set}
 use Rattle.ckr_points.specs.Follows.{is_update}
 use Rattle.ckr_points.specs.Payload.{records_under}
-use Rattle.ckr_points_invariant.proofs.StepEnd.Disposals.{flawless-first, flawless-rest}
+use Rattle.ckr_points_invariant.proofs.StepEnd.Disposals.{flawless-first, flawless-rest, no_flaw}
 use Rattle.ckr_points_invariant.proofs.Writes.Roles.{IsTarget}
 use Rattle.ckr_desk_turn.proofs.Rewrite.UnitWrites.{by_update}
 
@@ -94,9 +94,6 @@ flawless-dd standing root owned number test (first ∷ rest) dd name flawless at
     others : (other : Option Name) → flaws_in (cons_option (option_map (placed_one record_ways standing number first) other) (placed_from record_ways standing root owned (suc number) rest)) ≡ [] → flaws_in (placed_from record_ways standing root owned (suc number) rest) ≡ []
     others None flawless = flawless
     others (Some other) flawless = flawless-rest (placed_one record_ways standing number first other) (placed_from record_ways standing root owned (suc number) rest) flawless
-
-no_flaw : {A : Type 0} (flaw : FlawModel) → flaw_in (refused flaw) ≡ None → A
-no_flaw flaw e = absurd (some-not-none flaw e)
 
 plain-here : (content : Content) → flaw_in (if is_wrong_kind Updates content then refused wrong_kind else found) ≡ None → content ≡ Plain
 plain-here Plain e = refl

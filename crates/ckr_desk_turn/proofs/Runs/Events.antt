@@ -45,10 +45,7 @@ use Rattle.ckr_desk_turn.proofs.OtherRuns.{between-steps}
 use Rattle.ckr_desk_turn.proofs.Runs.Rows.{HasRow, HasRows, Stands, has-row, runs-renewed, stands-more, stands-one}
 use Rattle.ckr_desk_turn.proofs.Select.{code_while, queued-on}
 use Rattle.ckr_desk_turn.proofs.StepEnd.{by-changed}
-
-on-is : (state : RunState) → (state_number state == 2) ≡ true → state ≡ On
-on-is On e = refl
-on-is _ e = absurd (false≢true e)
+use Rattle.ckr_desk_turn.proofs.Opening.{on-is}
 
 held-is : (state : RunState) → (state_number state == 3) ≡ true → state ≡ HeldRun
 held-is HeldRun e = refl

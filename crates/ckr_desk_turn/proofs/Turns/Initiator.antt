@@ -59,7 +59,7 @@ use Rattle.ckr_desk_turn.proofs.Start.Invariant.{not-failed, planned-within, sta
 use Rattle.ckr_desk_turn.proofs.Turns.WithinStep.{PlanKeeps, step-keeps}
 
 -- fewer marks than none
-fewer-marked : (failed : List FailedRun) (run : ℕ) (also : FailedRun → Bool) → list_any (λ (one : FailedRun). one.run == run) failed ≡ false → list_any (λ (one : FailedRun). one.run == run && also one) failed ≡ false
+pub fewer-marked : (failed : List FailedRun) (run : ℕ) (also : FailedRun → Bool) → list_any (λ (one : FailedRun). one.run == run) failed ≡ false → list_any (λ (one : FailedRun). one.run == run && also one) failed ≡ false
 fewer-marked [] run also none = refl
 fewer-marked (first ∷ rest) run also none =
     ap (λ b. b && also first || list_any (λ (one : FailedRun). one.run == run && also one) rest) (or-first-false (first.run == run) (list_any (λ (one : FailedRun). one.run == run) rest) none)

@@ -389,7 +389,7 @@ module _ (also : Bool) where
 -- ---- what he was asked
 
 -- where he is silent, nothing is told
-silent-tells : (inquiry : Inquiry) (moved : DeskModel) → (done_by (awaits inquiry) moved).event ≡ None
+pub silent-tells : (inquiry : Inquiry) (moved : DeskModel) → (done_by (awaits inquiry) moved).event ≡ None
 silent-tells inquiry moved = by inquiry.lodged
   where
     by : (lodged : Bool) → (done_by (if lodged then Wait inquiry.job inquiry.code else Rest AwaitingReply) moved).event ≡ None

@@ -48,6 +48,7 @@ use Rattle.ckr_desk_turn.proofs.Runs.Continuations.{Continues, IsRenewedOn, cont
 use Rattle.ckr_desk_turn.proofs.Runs.Rows.{HasRows, rows-of}
 use Rattle.ckr_desk_turn.proofs.Turns.Initiator.{turn-keeps}
 use Rattle.ckr_desk_turn.proofs.Turns.Series.{next-keeps, turn-layout, turns-keep}
+use Rattle.ckr_desk_turn.proofs.Deferred.Desks.{leg-number}
 
 -- ---- the office behind a turn is that behind its event
 
@@ -114,14 +115,6 @@ turn-by desk one answer = plan-by answer (plan_for desk.layout (jobs_of desk) on
 
 -- ---- the leg of a run stays from its selection on
 
-leg_by-number : (office : Office) (row : RunRow) (earlier : ℕ) → (leg_by office row earlier).number ≡ row.number
-leg_by-number office row zero = refl
-leg_by-number office row (suc before) = by (leg_of office (suc before))
-  where
-    by : (earlier : Option Leg) → (option_map_or (continued_leg office row) earlier (plain_leg office row)).number ≡ row.number
-    by None = refl
-    by (Some earlier) = refl
-
 module _ (layout : Layout) (office : Office) (kept : IsKept layout office) (number : ℕ) (leg : Leg) (led : leg_of office number ≡ Some leg) where
   -- a run that is selected has no leg yet, and so is another one
   selected-apart : (job initiator earlier step : ℕ) (id : Option Name) → may_come layout office (Selected job initiator earlier step id, None) ≡ true → (job == number) ≡ false
@@ -146,7 +139,7 @@ module _ (layout : Layout) (office : Office) (kept : IsKept layout office) (numb
         option-cases (run_of tables job)
         (λ none. ap (λ (o : Option RunRow). find (λ (one : Leg). one.number == number) (option_map_or (λ row. with_leg (leg_by office row row.earlier) office.legs) o office.legs)) none ∙ led)
         (λ row at.
-        let its : (leg_by office row row.earlier).number ≡ job = leg_by-number office row row.earlier ∙ later.events.numbered job row at in
+        let its : (leg_by office row row.earlier).number ≡ job = leg-number office row row.earlier ∙ later.events.numbered job row at in
         let apart : ((leg_by office row row.earlier).number == number) ≡ false = ap (λ n. n == number) its ∙ selected-apart job initiator earlier step id may in
         ap (λ (o : Option RunRow). find (λ (one : Leg). one.number == number) (option_map_or (λ row. with_leg (leg_by office row row.earlier) office.legs) o office.legs)) at
         ∙ leg_there (leg_by office row row.earlier) number office.legs apart ∙ led)

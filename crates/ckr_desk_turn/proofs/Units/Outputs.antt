@@ -54,7 +54,7 @@ follow library sets (name ∷ outputs) each =
     ∙ and_from (nat_le out.table.set.length (length_now library sets name)) (nat_le (length_now library sets name) out.table.set.space) (nat_le-from _ _ out.low) (nat_le-from _ _ out.high))
     (follow library sets outputs (λ other among. each other (or_right (same_name other name) (is_among outputs other) among)))
 
-is_now : (content : Content) (table : TableSet) (most : ℕ) → is_length content most (length_by content table most) ≡ true
+pub is_now : (content : Content) (table : TableSet) (most : ℕ) → is_length content most (length_by content table most) ≡ true
 is_now Plain table most = equal-itself most
 is_now Checkpoints table most = refl
 

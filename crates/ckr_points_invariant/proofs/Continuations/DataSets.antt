@@ -28,7 +28,7 @@ use Rattle.ckr_points_invariant.proofs.Continuations.Walks.{owned, step-here}
 -- ---- passed names
 
 -- a passed name that still exists has a mark
-exists-marked : (marks : List Mark) (named : List Name) (sets : Named TableSet) (name : Name) → still_exists marks named sets name ≡ true → is_some (mark_at marks name) ≡ true
+pub exists-marked : (marks : List Mark) (named : List Name) (sets : Named TableSet) (name : Name) → still_exists marks named sets name ≡ true → is_some (mark_at marks name) ≡ true
 exists-marked marks named sets name exists = by (mark_at marks name) (and-second (is_among named name) _ exists)
   where
     by : (mark : Option Mark) → option_map_or (λ (present : Present). option_map_or (λ (table : TableSet). is_as_marked table present) (entry_at sets name) false) (option_map_or (λ (mark : Mark). mark.present) mark None) false ≡ true → is_some mark ≡ true

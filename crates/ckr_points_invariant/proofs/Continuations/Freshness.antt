@@ -193,7 +193,7 @@ module _ (marks : List Mark) (named : List Name) (sets : Named TableSet) (librar
 
 -- ---- a needed name that is there still exists
 
-mark-itself : (on : Bool) → same_mark on on ≡ true
+pub mark-itself : (on : Bool) → same_mark on on ≡ true
 mark-itself true = refl
 mark-itself false = refl
 

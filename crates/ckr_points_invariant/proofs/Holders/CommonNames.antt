@@ -49,7 +49,7 @@ kept-apart : TellsApart is_kept_name
 unfolding is_kept_name
 kept-apart = record { temporary = λ qualifier tail. refl; sysout = λ qualifier tail. refl }
 
-origin-written : (origin : Origin) (disp : Disp) → is_orderly_at origin disp ≡ true → IsWritten is_kept_name origin
+pub origin-written : (origin : Origin) (disp : Disp) → is_orderly_at origin disp ≡ true → IsWritten is_kept_name origin
 origin-written (NamedOrigin name) disp orderly = not-true (is_kept_name name) orderly
 origin-written _ disp orderly = tt
 

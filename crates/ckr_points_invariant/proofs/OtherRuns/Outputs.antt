@@ -15,7 +15,7 @@ use Rattle.ckr_points_invariant.proofs.Holders.SharedSets.{LeavesStep, no_output
 use Rattle.ckr_points_invariant.proofs.Writes.Roles.{formed-roles}
 
 -- what a step leaves is none of its outputs
-dds_output : (root : ℕ) (owned : OwnedStep) (dds : List Dd) (name : Name) → list_all (has_role owned.step.program) dds ≡ true → list_all (leaves_dd root owned name) dds ≡ true → is_among (filter_map (name_of root owned) (filter (λ dd. is_output dd.role) dds)) name ≡ false
+pub dds_output : (root : ℕ) (owned : OwnedStep) (dds : List Dd) (name : Name) → list_all (has_role owned.step.program) dds ≡ true → list_all (leaves_dd root owned name) dds ≡ true → is_among (filter_map (name_of root owned) (filter (λ dd. is_output dd.role) dds)) name ≡ false
 dds_output root owned [] name has left = refl
 dds_output root owned (dd ∷ dds) name has left =
     chosen_names (is_output dd.role)

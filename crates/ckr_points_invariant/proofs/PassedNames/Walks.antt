@@ -38,7 +38,7 @@ flawless-by start [] finish e = refl
 flawless-by start (first ∷ others) finish e = absurd (some-not-none _ e)
 
 -- a step that ends with a return code has no flaw
-flawless-on : (root number : ℕ) (owned : OwnedStep) (walk : Walk) → end_in root number owned walk ≡ None → is_bypassed walk.rcs owned ≡ false → flaws_in (placed_at (start_in root number owned walk)) ≡ []
+pub flawless-on : (root number : ℕ) (owned : OwnedStep) (walk : Walk) → end_in root number owned walk ≡ None → is_bypassed walk.rcs owned ≡ false → flaws_in (placed_at (start_in root number owned walk)) ≡ []
 unfolding end_in end_at
 flawless-on root number owned walk e runs =
     let start : StepStart = start_in root number owned walk in

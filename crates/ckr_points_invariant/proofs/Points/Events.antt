@@ -1,6 +1,6 @@
 -- One more event keeps what the points hold.
-use Rattle.std.proofs.Common.{◌≡◌, ◌≢◌, ℕ, suc, Bool, true, false, cond, ◌&&◌, if◌then◌else◌, List, [], ◌∷◌, filter, map, refl, ap, sym, ◌∙◌, subst, Option, Some, None}
-use Rattle.std.specs.Prelude.{◌==◌, nat_lt, nat_le}
+use Rattle.std.proofs.Common.{◌≡◌, ◌≢◌, ℕ, suc, true, false, ◌&&◌, if◌then◌else◌, List, [], ◌∷◌, map, refl, ap, sym, ◌∙◌, subst, Option, Some, None}
+use Rattle.std.specs.Prelude.{◌==◌, nat_le}
 use Rattle.std.specs.Option.{option_map, option_map_or}
 use Rattle.arrayvec.specs.ArrayVec.{ArrayVec}
 use Rattle.ckr_base.specs.declared.code.Code.{Code}
@@ -49,27 +49,9 @@ use Rattle.ckr_points_invariant.proofs.Steps.Commits.{carried-of}
 use Rattle.ckr_points_invariant.proofs.Steps.Events.{kept-commit, led-by, on-holds, step-by}
 use Rattle.ckr_points_invariant.proofs.Steps.Walks.{at-opened}
 use Rattle.ckr_points_invariant.proofs.WaitingRuns.{by-selected, follows-of, tested-run}
+use Rattle.ckr_points_invariant.proofs.Restart.Points.{fewer, points-with}
 
 -- ---- points of one run
-
-fewer : (legs : List Leg) (kept : KeptEntry → Bool) (entries : List KeptEntry) → AreEntryPoints legs entries → AreEntryPoints legs (filter kept entries)
-fewer legs kept [] each = tt
-fewer legs kept (first ∷ rest) each =
-    elim (kept first) as (λ b. AreEntryPoints legs (cond b (first ∷ filter kept rest) (filter kept rest))) [
-      | true ↦ (each.0, fewer legs kept rest each.1)
-      | false ↦ fewer legs kept rest each.1
-    ]
-
-points-with : (legs : List Leg) (run : ℕ) (point : StartPoint) (points : List StartPoint) → IsPointAt legs run (Opened point.step) point.marks point.passed → AreStepPoints legs run points → AreStepPoints legs run (with_point point points)
-points-with legs run point [] one each = (one, tt)
-points-with legs run point (first ∷ rest) one each =
-    elim (point.step == first.step) as (λ b. AreStepPoints legs run (if b then point ∷ rest else (if nat_lt point.step first.step then point ∷ first ∷ rest else first ∷ with_point point rest))) [
-      | true ↦ (one, each.1)
-      | false ↦ elim (nat_lt point.step first.step) as (λ b. AreStepPoints legs run (if b then point ∷ first ∷ rest else first ∷ with_point point rest)) [
-        | true ↦ (one, each)
-        | false ↦ (each.0, points-with legs run point rest one each.1)
-      ]
-    ]
 
 points-rewritten : (legs : List Leg) (run step : ℕ) (points : List StartPoint) → AreStepPoints legs run points → AreStepPoints legs run (map (point_rewritten step) points)
 points-rewritten legs run step [] each = tt

@@ -15,13 +15,10 @@ use Rattle.ckr_meaning.specs.LibrarySet.{LibrarySet, Library}
 use Rattle.ckr_points.specs.Marks.{present_at, put_back}
 use Rattle.ckr_points.specs.Rows.{TableSet, cut_set}
 use Rattle.ckr_points_invariant.specs.Invariant.{AreAlike, IsMarkOf, Shape, counted, present_shape, set_shape, table_shape}
-use Rattle.ckr_points_invariant.proofs.Writes.Likeness.{BareAlike, bare}
+use Rattle.ckr_points_invariant.proofs.Writes.Likeness.{BareAlike, bare, lengthened}
 use Rattle.ckr_points_invariant.proofs.PutBack.Sets.{back_to, put_back-marked, put_back-none, to_length}
 
 -- ---- one data set
-
-lengthened : (one other : Shape) → bare one ≡ bare other → one.length ≡ other.length → one ≡ other
-lengthened one other same long = ap (λ (shape : Shape). record shape { length = one.length }) same ∙ ap (λ most. record other { length = most }) long
 
 -- a table has at least the length that the library has
 abbrev pub IsAsLong : TableSet → LibrarySet → Type 0

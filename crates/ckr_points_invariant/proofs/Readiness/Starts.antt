@@ -32,7 +32,7 @@ use Rattle.ckr_points_invariant.proofs.Readiness.Writes.{unwritten-none}
 
 -- ---- what a step makes, of the tables
 
-made_left : (stamp : Stamp) (items : List Made) (placed : DdAllotment) (allotment : AllotmentModel) (sets : Named TableSet) (name : Name) → (same_name name placed.name ≡ true → is_made allotment ≡ false) → entry_at (made_table stamp items placed allotment sets) name ≡ entry_at sets name
+pub made_left : (stamp : Stamp) (items : List Made) (placed : DdAllotment) (allotment : AllotmentModel) (sets : Named TableSet) (name : Name) → (same_name name placed.name ≡ true → is_made allotment ≡ false) → entry_at (made_table stamp items placed allotment sets) name ≡ entry_at sets name
 made_left stamp items placed found sets name unless = refl
 made_left stamp items placed made sets name unless =
     bool-cases (same_name name placed.name) (λ same. absurd (false≢true (sym (unless same))))

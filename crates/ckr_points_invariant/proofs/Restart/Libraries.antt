@@ -6,7 +6,7 @@ use Rattle.std.proofs.lemmas.Bool.{false≢true, or_parts}
 use Rattle.std.proofs.lemmas.Option.{same_Some}
 use Rattle.ckr_base.specs.declared.programs.Write.{Write}
 use Rattle.ckr_base.proofs.Bools.{bool-cases}
-use Rattle.ckr_base.proofs.Sequences.{all-drop, all-take, take-short}
+use Rattle.ckr_base.proofs.Sequences.{all-drop, all-take}
 use Rattle.ckr_entry.specs.declared.point.Mark.{Mark}
 use Rattle.ckr_library.specs.declared.sets.Content.{Content}
 use Rattle.ckr_library.specs.declared.sets.Content.TheVariants.{Plain, Checkpoints}
@@ -21,7 +21,6 @@ use Rattle.ckr_points_library.specs.Commit.{output_names}
 use Rattle.ckr_points.specs.Marks.{present_at, put_back}
 use Rattle.ckr_points.specs.Payload.{is_formed_step, rewrites_nothing, writes_between}
 use Rattle.ckr_points.specs.Rows.{TableSet}
-use Rattle.ckr_points.specs.Soundness.{IsPrefix}
 use Rattle.ckr_points_invariant.specs.Invariant.{AreAlike, IsMarkOf, Shape, counted, set_shape, table_shape}
 use Rattle.ckr_points_invariant.proofs.Holders.SharedSets.{Unmade, made_all-left}
 use Rattle.ckr_points_invariant.proofs.Rewrite.Sets.{updated-out}
@@ -30,6 +29,7 @@ use Rattle.ckr_points_invariant.proofs.Writes.Growth.{HasGrown, IsNotUpdated, wr
 use Rattle.ckr_points_invariant.proofs.Writes.Likeness.{bare, bare-alike, written_all-bare, written_all-other}
 use Rattle.ckr_points_invariant.proofs.Writes.Roles.{is_right, work_at-right}
 use Rattle.ckr_points_invariant.proofs.PutBack.Likeness.{AreAsLong, put_back-alike}
+use Rattle.ckr_points_invariant.proofs.Stamps.Tables.{prefix_length}
 
 -- ---- opened and made
 
@@ -50,12 +50,6 @@ opened-made start name flawless kept =
     (unmade-all name (placed_at start) (names_made-placed start.standing start.root start.owned 1 start.owned.step.dds name flawless ∙ kept))
 
 -- ---- lengths
-
-prefix_short : {A : Type 0} (first second : List A) → IsPrefix first second → length first ≤ length second
-prefix_short first second begins =
-    let short : length (take (length first) second) ≤ length second = take-short (length first) second in
-    let e : length (take (length first) second) ≡ length first = ap length begins in
-    omega (arith, short, e)
 
 counted_short : (content : Content) (one other : ℕ) → one ≤ other → counted content one ≤ counted content other
 counted_short Plain one other short = short
@@ -111,7 +105,7 @@ module _ (start : StepStart) (from to : ℕ) (formed : is_formed_step start.root
       grown-long table set grown.other
       (same_Some _ _ (alike ∙ ap (λ library. option_map set_shape (entry_at library name)) going ∙ ap (option_map set_shape) grown.at_name))
       grown.grown.content
-      (prefix_short set.records grown.other.records grown.grown.records)
+      (prefix_length set.records grown.other.records grown.grown.records)
 
   same-long : (entry : Option TableSet) (set : Option LibrarySet) → option_map table_shape entry ≡ option_map set_shape set → AreAsLong entry set
   same-long entry None alike = none_long entry

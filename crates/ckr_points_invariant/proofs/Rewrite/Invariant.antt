@@ -35,7 +35,7 @@ use Rattle.ckr_points_invariant.proofs.Writes.Roles.{dd_role, formed-roles}
 
 -- ---- what a program updates
 
-update-is : (program : Kind) → is_update program ≡ true → program ≡ Update
+pub update-is : (program : Kind) → is_update program ≡ true → program ≡ Update
 update-is Copy e = absurd (false≢true e)
 update-is Select e = absurd (false≢true e)
 update-is Merge e = absurd (false≢true e)
@@ -47,7 +47,7 @@ update-is Br14 e = absurd (false≢true e)
 abbrev master : Name
 master = codes "MASTER"
 
-not_updates : (read written updated checkpointed : Bool) → updated ≡ false → is_updates (if read then Reads else (if written then Writes else (if updated then Updates else (if checkpointed then Checkpoints else Unused)))) ≡ false
+pub not_updates : (read written updated checkpointed : Bool) → updated ≡ false → is_updates (if read then Reads else (if written then Writes else (if updated then Updates else (if checkpointed then Checkpoints else Unused)))) ≡ false
 not_updates true written updated checkpointed e = refl
 not_updates false true updated checkpointed e = refl
 not_updates false false true checkpointed e = e
@@ -59,7 +59,7 @@ unfolding is_updated_by
 other_updated name apart =
     ap (λ b. b || false) (texts_ties name master ∙ name-equivalence.symm name master ∙ apart)
 
-other_role : (name : Name) → is_updated_by Update name ≡ false → is_updates (role_of Update name) ≡ false
+pub other_role : (name : Name) → is_updated_by Update name ≡ false → is_updates (role_of Update name) ≡ false
 unfolding role_of
 other_role name e = not_updates (is_read_by Update name) (is_written_by Update name) (is_updated_by Update name) (is_checkpointed_by Update name) e
 

@@ -37,6 +37,7 @@ use Rattle.ckr_points_invariant.proofs.Select.Holders.{all_legs, free-of, holder
 use Rattle.ckr_points_invariant.proofs.Holders.Uses.{holder-leaves, holder-uses, names-used, none-exclusive, shared-left}
 use Rattle.ckr_points_invariant.proofs.Steps.Walks.{at-before}
 use Rattle.ckr_points_invariant.specs.JobNames.{HasUses, IsKin, KeepsJobNames, has_ended, keeps_points}
+use Rattle.ckr_points_invariant.proofs.Continuations.ReachedNames.OwnSteps.{owner-is}
 
 -- a step's names are the job's
 among-get : (root place : ℕ) (steps : List OwnedStep) (owned : OwnedStep) (name : Name) → slice_get steps place ≡ Some owned → is_among (names_of root owned) name ≡ true → is_among (names_of_steps root steps) name ≡ true
@@ -52,15 +53,9 @@ pub among-step : (job : Effective) (number : ℕ) (owned : OwnedStep) (name : Na
 among-step job zero owned name e among = absurd (some-not-none owned (sym e))
 among-step job (suc before) owned name e among = among-get job.root before job.steps owned name e among
 
--- a run without RESTART owns all its steps
-owns_each : (run : ℕ) (deck : Job) (steps : List Step) (place : ℕ) (owned : OwnedStep) → slice_get (map (owned_by run deck) steps) place ≡ Some owned → owned.owner ≡ run
-owns_each run deck [] place owned e = absurd (some-not-none owned (sym e))
-owns_each run deck (first ∷ rest) zero owned e = ap (λ (o : OwnedStep). o.owner) (sym (same_Some (owned_by run deck first) owned e))
-owns_each run deck (first ∷ rest) (suc place) owned e = owns_each run deck rest place owned e
-
-owns_step : (run : ℕ) (deck : Job) (number : ℕ) (owned : OwnedStep) → step_at (plain_job run deck) number ≡ Some owned → owned.owner ≡ run
+pub owns_step : (run : ℕ) (deck : Job) (number : ℕ) (owned : OwnedStep) → step_at (plain_job run deck) number ≡ Some owned → owned.owner ≡ run
 owns_step run deck zero owned e = absurd (some-not-none owned (sym e))
-owns_step run deck (suc before) owned e = owns_each run deck deck.steps before owned e
+owns_step run deck (suc before) owned e = owner-is run deck deck.steps before owned e
 
 owns_all : (tables : TablesModel) (run : ℕ) (deck : Job) (steps : List Step) → list_all (λ owned. keeps_points tables run owned.owner) (map (owned_by run deck) steps) ≡ true
 owns_all tables run deck [] = refl

@@ -15,13 +15,12 @@ use Rattle.ckr_library.specs.declared.sets.Stamp.{Stamp}
 use Rattle.ckr_library.specs.NameMaps.{Name, same_name, entry_at, with_changed, without_entry}
 use Rattle.ckr_library.proofs.Named.{at-with_changed, at-without_entry}
 use Rattle.ckr_meaning.specs.LibrarySet.{LibrarySet, Library, record_ways}
-use Rattle.ckr_meaning.specs.Allotments.{FlawModel}
 use Rattle.ckr_meaning.specs.Dispositions.{Disposal, Stock, disposed_all, disposed_one, passed_ended, sets_after}
 use Rattle.ckr_meaning.specs.EffectiveJob.{Effective, OwnedStep, disposals_of, flaws_in, step_at}
 use Rattle.ckr_meaning.specs.declared.place.Place.{Place}
 use Rattle.ckr_meaning.specs.declared.place.Place.TheVariants.{Before, Opened, Within}
-use Rattle.ckr_meaning.specs.StepRun.{StepStart, disposed_at, end_at, end_by, opened_at, placed_at, within_at, work_at}
-use Rattle.ckr_meaning.specs.JobRun.{Walk, all_go_on, at, end_in, end_unless, is_bypassed, place_of_end, start_at, start_in, step_walked, walk_before, walk_from, walked, walked_by, walked_one, with_sets}
+use Rattle.ckr_meaning.specs.StepRun.{StepStart, disposed_at, opened_at, placed_at, within_at, work_at}
+use Rattle.ckr_meaning.specs.JobRun.{Walk, all_go_on, at, end_in, is_bypassed, start_at, start_in, step_walked, walk_before, walk_from, walked, walked_by, walked_one, with_sets}
 use Rattle.ckr_meaning.proofs.JobEnds.{all_go_on-step, go_on_unless}
 use Rattle.ckr_meaning.proofs.Walks.{walk_before-next}
 use Rattle.ckr_points.specs.Payload.{is_formed, is_formed_step}
@@ -32,6 +31,7 @@ use Rattle.ckr_points.specs.Soundness.{stamped_writes}
 use Rattle.ckr_points_invariant.proofs.Holders.Rows.{step-all}
 use Rattle.ckr_points_invariant.proofs.Stamps.Steps.{IsOfStep, Outcome, opened-outcome, within-outcome}
 use Rattle.ckr_points_invariant.proofs.Steps.Walks.{at-before, at-opened, at-within, start_at-of}
+use Rattle.ckr_points_invariant.proofs.PassedNames.Walks.{flawless-on}
 
 -- ---- dispositions and the end leave records and stamps
 
@@ -123,28 +123,18 @@ all_go_on-less root number (first ∷ front) owned walk goes =
           ap (λ n. end_in root n owned (walked root (suc number) front (walked_one root number first walk))) (let s : number + suc (length front) ≡ suc number + length front = omega arith in s) ∙ its.1,
         )
 
--- a step without an end, that isn't bypassed, had no flaw
-flawless-end : (root number : ℕ) (owned : OwnedStep) (walk : Walk) → end_in root number owned walk ≡ None → is_bypassed walk.rcs owned ≡ false → flaws_in (placed_at (start_in root number owned walk)) ≡ []
-unfolding end_in end_at
-flawless-end root number owned walk none runs =
-    by (flaws_in (placed_at (start_in root number owned walk))) (sym (ap (λ b. end_unless b (start_in root number owned walk)) runs) ∙ none)
-  where
-    by : (flaws : List (ℕ × FlawModel)) → place_of_end number (work_at (start_in root number owned walk)) (end_by flaws (work_at (start_in root number owned walk)).finish) ≡ None → flaws ≡ []
-    by [] e = refl
-    by (first ∷ rest) e = absurd (some-not-none (Before number) e)
-
-take-past : (count : ℕ) (steps : List OwnedStep) → slice_get steps count ≡ None → take (suc count) steps ≡ take count steps
+pub take-past : (count : ℕ) (steps : List OwnedStep) → slice_get steps count ≡ None → take (suc count) steps ≡ take count steps
 take-past zero [] none = refl
 take-past (suc count) [] none = refl
 take-past zero (first ∷ rest) none = absurd (some-not-none first none)
 take-past (suc count) (first ∷ rest) none = ap (λ steps. first ∷ steps) (take-past count rest none)
 
-opened-none : (job : Effective) (library : Library) (step : ℕ) → step_at job step ≡ None → at job library (Opened step) ≡ (walk_before job library step).standing
+pub opened-none : (job : Effective) (library : Library) (step : ℕ) → step_at job step ≡ None → at job library (Opened step) ≡ (walk_before job library step).standing
 unfolding at start_at
 opened-none job library step none =
     ap (λ (o : Option OwnedStep). option_map_or (λ (start : StepStart). with_sets (opened_at start) start.standing) (option_map (λ owned. start_in job.root step owned (walk_before job library step)) o) (walk_before job library step).standing) none
 
-within-none : (job : Effective) (library : Library) (step writes : ℕ) → step_at job step ≡ None → at job library (Within step writes) ≡ (walk_before job library step).standing
+pub within-none : (job : Effective) (library : Library) (step writes : ℕ) → step_at job step ≡ None → at job library (Within step writes) ≡ (walk_before job library step).standing
 unfolding at start_at
 within-none job library step writes none =
     ap (λ (o : Option OwnedStep). option_map_or (λ (start : StepStart). with_sets (within_at start writes) start.standing) (option_map (λ owned. start_in job.root step owned (walk_before job library step)) o) (walk_before job library step).standing) none
@@ -218,7 +208,7 @@ module _ (office : Office) (leg : Leg) (number : ℕ) (led : leg_of office numbe
       by true how e =
           let its : Sits (suc before) name set = sits name set e in
           record { begins = its.begins; early = λ mine. let low : set.stamp.step < suc before = its.early mine in omega (arith, low) }
-      by false how e = walked_sits (suc before) owned found sits (flawless-end leg.job.root (suc before) owned (walk_before leg.job leg.start (suc before)) none how) name set e
+      by false how e = walked_sits (suc before) owned found sits (flawless-on leg.job.root (suc before) owned (walk_before leg.job leg.start (suc before)) none how) name set e
 
   -- before each step to which the job comes
   before_sits : (before : ℕ) → all_go_on leg.job.root 1 (take before leg.job.steps) (walk_from leg.start) ≡ true → (name : Name) (set : LibrarySet) → entry_at (walk_before leg.job leg.start (suc before)).standing.sets name ≡ Some set → Sits (suc before) name set

@@ -127,7 +127,7 @@ library-begun layout office name kept =
         let library : Library = option_map_or (λ leg. (standing_at office leg).sets) leg office.library in
         AreAlike office.tables.sets library name × ((set : LibrarySet) → entry_at library name ≡ Some set → HasBegun office name set)
 
-prefix_length : {A : Type 0} (first second : List A) → IsPrefix first second → length first ≤ length second
+pub prefix_length : {A : Type 0} (first second : List A) → IsPrefix first second → length first ≤ length second
 prefix_length first second begins = let e : length (take (length first) second) ≤ length second = take-short (length first) second in let same : length (take (length first) second) ≡ length first = ap length begins in omega (arith, e, same)
 
 -- a leg that a stamp has

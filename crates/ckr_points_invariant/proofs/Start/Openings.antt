@@ -11,6 +11,7 @@ use Rattle.ckr_meaning.specs.LibrarySet.{LibrarySet, Library, record_ways}
 use Rattle.ckr_meaning.specs.Allotments.{AllotmentModel, found, made, refused, DdAllotment, is_output, opened_all, opened_by, opened_one}
 use Rattle.ckr_meaning.specs.StepRun.{StepStart, opened_at, placed_at, stamp_at}
 use Rattle.ckr_points_invariant.specs.Invariant.{Shape, counted, set_shape}
+use Rattle.ckr_points_invariant.proofs.StepEnd.Disposals.{none_known}
 
 -- ---- what opening does to a shape
 
@@ -152,10 +153,6 @@ opened_all-known stamp (placed ∷ rest) library name =
 pub opened-known : (start : StepStart) (name : Name) → option_map record_ways.known (entry_at (opened_at start) name) ≡ option_map record_ways.known (entry_at start.standing.sets name)
 unfolding opened_at
 opened-known start name = opened_all-known (stamp_at start) (placed_at start) start.standing.sets name
-
-none_known : (entry : Option LibrarySet) → is_none (option_map record_ways.known entry) ≡ is_none entry
-none_known None = refl
-none_known (Some set) = refl
 
 pub opened-none : (start : StepStart) (name : Name) → is_none (entry_at (opened_at start) name) ≡ is_none (entry_at start.standing.sets name)
 opened-none start name =

@@ -20,7 +20,7 @@ use Rattle.ckr_points.specs.Tables.{run_disposal}
 
 -- ---- without a flaw, a DD makes what wasn't there
 
-no_flaw : {A : Type 0} (flaw : FlawModel) → flaw_in (refused flaw) ≡ None → A
+pub no_flaw : {A : Type 0} (flaw : FlawModel) → flaw_in (refused flaw) ≡ None → A
 no_flaw flaw e = absurd (some-not-none flaw e)
 
 found_makes : (role : Role) (known : Known) → flaw_in (with_kind role (Some known) found) ≡ None → is_made (with_kind role (Some known) found) ≡ false
@@ -51,7 +51,7 @@ pub makes : (dd : Dd) (passed : Bool) (its : Option Known) → flaw_in (allotmen
 makes dd passed None e = none_makes dd.role dd.disp.status (is_some dd.space) e
 makes dd passed (Some known) e = some_makes dd.role dd.disp.status known (is_found dd passed (Some known)) (is_some dd.space) e
 
-none_known : (entry : Option LibrarySet) → is_none (option_map record_ways.known entry) ≡ is_none entry
+pub none_known : (entry : Option LibrarySet) → is_none (option_map record_ways.known entry) ≡ is_none entry
 none_known None = refl
 none_known (Some set) = refl
 

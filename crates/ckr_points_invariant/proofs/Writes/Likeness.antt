@@ -109,7 +109,7 @@ written_all-other start (write ∷ writes) library name formed adds out =
 
 -- ---- the lengths
 
-lengthened : (one other : Shape) → bare one ≡ bare other → one.length ≡ other.length → one ≡ other
+pub lengthened : (one other : Shape) → bare one ≡ bare other → one.length ≡ other.length → one ≡ other
 lengthened one other same long = ap (λ (shape : Shape). record shape { length = one.length }) same ∙ ap (λ most. record other { length = most }) long
 
 counted_as : (content : Content) (wanted now : ℕ) → is_length content wanted now ≡ true → counted content now ≡ counted content wanted

@@ -67,7 +67,7 @@ cut-ends needed present table ends = by needed (nat_le present.length table.set.
     by false false e = all-longer table.set.length present.length table.entries (short e) ends
 
 -- what a mark has isn't marked absent
-present-there : (marks : List Mark) (name : Name) (present : Present) → present_at marks name ≡ Some present → is_marked_absent marks name ≡ false
+pub present-there : (marks : List Mark) (name : Name) (present : Present) → present_at marks name ≡ Some present → is_marked_absent marks name ≡ false
 present-there marks name present = by (mark_at marks name)
   where
     by : (mark : Option Mark) → option_map_or (λ (mark : Mark). mark.present) mark None ≡ Some present → option_map_or (λ (mark : Mark). is_none mark.present) mark false ≡ false

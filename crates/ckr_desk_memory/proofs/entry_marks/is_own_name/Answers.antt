@@ -3,7 +3,7 @@ use Rattle.std.proofs.lemmas.List.{drop_all}
 use Rattle.ckr_base.proofs.Numbers.{plus-minus, suc-minus}
 use Rattle.ckr_meaning.specs.EffectiveJob.{is_among, names_of_steps, step_at}
 use Rattle.ckr_points_tables.specs.RunJobs.{effective, names_in}
-use Rattle.ckr_points_tables.proofs.OwnNames.{among-append}
+use Rattle.ckr_points_tables.proofs.MadeNames.{among-both}
 use Rattle.ckr_desk_memory.proofs.EntryPoints.{names-before}
 use Rattle.ckr_desk_memory.proofs.entry_marks.is_own_name.Goals as goal
 use Rattle.ckr_desk_memory.proofs.entry_marks.is_own_name.Goals.{After-has_name_at}
@@ -16,7 +16,7 @@ next-is c =
     let job = effective behind.on.now.run behind.table.now.job in
     let step = c.loop-step.step in
     ap (λ names. is_among names c.args.name.now) (names-before job step c.loop-step.invariant.first)
-    ∙ among-append (names_in job.root (step_at job step)) (names_of_steps job.root (drop step job.steps)) c.args.name.now
+    ∙ among-both (names_in job.root (step_at job step)) (names_of_steps job.root (drop step job.steps)) c.args.name.now
     ∙ ap (λ b. b || is_among (names_of_steps job.root (drop step job.steps)) c.args.name.now) (sym c.has_name_at.ensures)
 
 pub loop-step-init : goal.loop-step-init

@@ -1,7 +1,8 @@
 use Rattle.std.proofs.Common.{ap, sym, ◌∙◌}
 use Rattle.std.specs.Option.{option_copied}
-use Rattle.ckr_points_deferred.proofs.SetNames.{none-first, none-seen-unnamed, none-unnamed}
+use Rattle.ckr_points_deferred.proofs.SetNames.{none-seen-unnamed}
 use Rattle.ckr_points_deferred.proofs.syschk_entries.no_set_without_name.Goals as goal
+use Rattle.ckr_points_tables.proofs.UnnamedSets.{none-unnamed, none-first}
 
 pub returns-in-Some : goal.returns-in-Some
 returns-in-Some c =

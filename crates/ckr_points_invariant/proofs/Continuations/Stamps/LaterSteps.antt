@@ -1,23 +1,22 @@
 -- Where a run owns the steps of its job from one on: if the data sets before this step begin what the steps of their stamps write, so do those at
 -- each later place to which the job comes.
 use Rattle.std.proofs.Common.{◌≡◌, ◌≤◌, ◌<◌, inl, inr, ℕ, zero, suc, pred, ◌+◌, Bool, true, false, ◌&&◌, List, [], ◌∷◌, ◌++◌, take, length, refl, ap, sym, ◌∙◌, subst, Option, Some, None, arith}
-use Rattle.std.specs.Prelude.{◌==◌, slice_get}
-use Rattle.std.specs.Option.{option_map, option_map_or}
+use Rattle.std.specs.Prelude.{◌==◌}
+use Rattle.std.specs.Option.{option_map_or}
 use Rattle.std.proofs.lemmas.Bool.{false≢true}
 use Rattle.ckr_base.proofs.Bools.{bool-cases}
 use Rattle.ckr_base.proofs.Numbers.{equal-apart, equal-true, number-cases}
-use Rattle.ckr_base.proofs.Options.{option-cases, some-not-none}
+use Rattle.ckr_base.proofs.Options.{option-cases}
 use Rattle.ckr_base.proofs.Sequences.{length-take, take-next}
 use Rattle.ckr_library.specs.declared.sets.Stamp.{Stamp}
 use Rattle.ckr_library.specs.NameMaps.{Name, entry_at}
 use Rattle.ckr_meaning.specs.LibrarySet.{Library, LibrarySet}
-use Rattle.ckr_meaning.specs.Allotments.{FlawModel}
 use Rattle.ckr_meaning.specs.Dispositions.{Stock}
-use Rattle.ckr_meaning.specs.EffectiveJob.{Effective, OwnedStep, flaws_in, step_at}
+use Rattle.ckr_meaning.specs.EffectiveJob.{OwnedStep, flaws_in, step_at}
 use Rattle.ckr_meaning.specs.declared.place.Place.{Place}
 use Rattle.ckr_meaning.specs.declared.place.Place.TheVariants.{Before, Opened, Within}
-use Rattle.ckr_meaning.specs.StepRun.{StepStart, end_at, end_by, opened_at, placed_at, within_at, work_at}
-use Rattle.ckr_meaning.specs.JobRun.{Walk, all_go_on, at, end_in, end_unless, is_bypassed, place_of_end, start_at, start_in, step_walked, walk_before, walk_from, walked, walked_by, walked_one, with_sets}
+use Rattle.ckr_meaning.specs.StepRun.{StepStart, opened_at, placed_at, within_at, work_at}
+use Rattle.ckr_meaning.specs.JobRun.{Walk, all_go_on, at, end_in, is_bypassed, start_at, step_walked, walk_before, walk_from, walked, walked_by, walked_one}
 use Rattle.ckr_meaning.proofs.JobEnds.{all_go_on-step, go_on_unless}
 use Rattle.ckr_meaning.proofs.Walks.{walk_before-next}
 use Rattle.ckr_points.specs.Office.{Leg, Office, leg_of}
@@ -27,9 +26,10 @@ use Rattle.ckr_points.specs.Soundness.{stamped_writes}
 use Rattle.ckr_points_invariant.specs.Invariant.{AreBegun, HasBegun, IsReached}
 use Rattle.ckr_points_invariant.specs.RunningSteps.{start_of}
 use Rattle.ckr_points_invariant.proofs.Holders.Rows.{step-all}
-use Rattle.ckr_points_invariant.proofs.Stamps.Beginnings.{begun-as, disposed-from}
+use Rattle.ckr_points_invariant.proofs.Stamps.Beginnings.{begun-as, disposed-from, take-past, opened-none, within-none}
 use Rattle.ckr_points_invariant.proofs.Stamps.Steps.{IsOfStep, Outcome, opened-outcome, within-outcome}
 use Rattle.ckr_points_invariant.proofs.Steps.Walks.{at-before, at-opened, at-within, start_at-of}
+use Rattle.ckr_points_invariant.proofs.PassedNames.Walks.{flawless-on}
 
 -- ---- steps that go on
 
@@ -57,32 +57,6 @@ all_go_on-less root number (first ∷ front) owned walk goes =
           all_go_on-step root number first front walk ∙ ap (λ place. go_on_unless place (all_go_on root (suc number) front (walked_one root number first walk))) e ∙ its.0,
           ap (λ n. end_in root n owned (walked root (suc number) front (walked_one root number first walk))) (let s : number + suc (length front) ≡ suc number + length front = omega arith in s) ∙ its.1,
         )
-
--- a step without an end, that isn't bypassed, had no flaw
-flawless-end : (root number : ℕ) (owned : OwnedStep) (walk : Walk) → end_in root number owned walk ≡ None → is_bypassed walk.rcs owned ≡ false → flaws_in (placed_at (start_in root number owned walk)) ≡ []
-unfolding end_in end_at
-flawless-end root number owned walk none runs =
-    by (flaws_in (placed_at (start_in root number owned walk))) (sym (ap (λ b. end_unless b (start_in root number owned walk)) runs) ∙ none)
-  where
-    by : (flaws : List (ℕ × FlawModel)) → place_of_end number (work_at (start_in root number owned walk)) (end_by flaws (work_at (start_in root number owned walk)).finish) ≡ None → flaws ≡ []
-    by [] e = refl
-    by (first ∷ rest) e = absurd (some-not-none (Before number) e)
-
-take-past : (count : ℕ) (steps : List OwnedStep) → slice_get steps count ≡ None → take (suc count) steps ≡ take count steps
-take-past zero [] none = refl
-take-past (suc count) [] none = refl
-take-past zero (first ∷ rest) none = absurd (some-not-none first none)
-take-past (suc count) (first ∷ rest) none = ap (λ steps. first ∷ steps) (take-past count rest none)
-
-opened-behind : (job : Effective) (library : Library) (step : ℕ) → step_at job step ≡ None → at job library (Opened step) ≡ (walk_before job library step).standing
-unfolding at start_at
-opened-behind job library step none =
-    ap (λ (o : Option OwnedStep). option_map_or (λ (start : StepStart). with_sets (opened_at start) start.standing) (option_map (λ owned. start_in job.root step owned (walk_before job library step)) o) (walk_before job library step).standing) none
-
-within-behind : (job : Effective) (library : Library) (step writes : ℕ) → step_at job step ≡ None → at job library (Within step writes) ≡ (walk_before job library step).standing
-unfolding at start_at
-within-behind job library step writes none =
-    ap (λ (o : Option OwnedStep). option_map_or (λ (start : StepStart). with_sets (within_at start writes) start.standing) (option_map (λ owned. start_in job.root step owned (walk_before job library step)) o) (walk_before job library step).standing) none
 
 -- ---- before a step
 
@@ -181,7 +155,7 @@ module _ (office : Office) (leg : Leg) (number from : ℕ) (led : leg_of office 
         where
           by : (bypassed : Bool) → is_bypassed (walk_before leg.job leg.start step).rcs owned ≡ bypassed → AreSeated office number (suc step) (walked_by bypassed start (walk_before leg.job leg.start step)).standing.sets
           by true how name set e = seated-later office number step (suc step) name set (omega arith) (seated name set e)
-          by false how name set e = walked_seated (flawless-end leg.job.root step owned (walk_before leg.job leg.start step) none how) name set e
+          by false how name set e = walked_seated (flawless-on leg.job.root step owned (walk_before leg.job leg.start step) none how) name set e
 
   -- ---- from step to step
 
@@ -226,14 +200,14 @@ module _ (office : Office) (leg : Leg) (number from : ℕ) (led : leg_of office 
       (before_step step later reached.goes_on name set (ap (λ (standing : Stock LibrarySet). entry_at standing.sets name) (sym (at-before leg.job leg.start step)) ∙ e)).begins
   later-begun (Opened step) later reached name set e =
       option-cases (step_at leg.job step)
-      (λ none. (before_step step later reached.goes_on name set (ap (λ (standing : Stock LibrarySet). entry_at standing.sets name) (sym (opened-behind leg.job leg.start step none)) ∙ e)).begins)
+      (λ none. (before_step step later reached.goes_on name set (ap (λ (standing : Stock LibrarySet). entry_at standing.sets name) (sym (opened-none leg.job leg.start step none)) ∙ e)).begins)
       (λ owned found.
       (opened_seated step owned later found (before_step step later reached.goes_on)
       (reached.flawless (start_of leg.job leg.start step owned) refl (start_at-of leg.job leg.start step owned found))
       name set (ap (λ library. entry_at library name) (sym (at-opened leg.job leg.start step owned found)) ∙ e)).begins)
   later-begun (Within step writes) later reached name set e =
       option-cases (step_at leg.job step)
-      (λ none. (before_step step later reached.goes_on name set (ap (λ (standing : Stock LibrarySet). entry_at standing.sets name) (sym (within-behind leg.job leg.start step writes none)) ∙ e)).begins)
+      (λ none. (before_step step later reached.goes_on name set (ap (λ (standing : Stock LibrarySet). entry_at standing.sets name) (sym (within-none leg.job leg.start step writes none)) ∙ e)).begins)
       (λ owned found.
       (within_seated step owned later found (before_step step later reached.goes_on)
       (reached.flawless (start_of leg.job leg.start step owned) refl (start_at-of leg.job leg.start step owned found))

@@ -2,7 +2,7 @@
 use Rattle.std.proofs.Common.{◌≡◌, ◌≤◌, ◌+◌, ℕ, true, false, not, List, refl, ap, sym, ◌∙◌, Option, Some, None, arith}
 use Rattle.std.specs.Prelude.{nat_le}
 use Rattle.std.specs.List.{find}
-use Rattle.std.specs.Option.{is_none, option_map_or}
+use Rattle.std.specs.Option.{option_map_or}
 use Rattle.std.proofs.lemmas.Bool.{false≢true}
 use Rattle.std.proofs.lemmas.Bool.Decides.{nat_tests}
 use Rattle.ckr_base.proofs.Bools.{or-cases}
@@ -14,21 +14,14 @@ use Rattle.ckr_entry.specs.declared.point.Present.{Present}
 use Rattle.ckr_library.proofs.Named.{name-same}
 use Rattle.ckr_library.specs.Catalog.{ends_within, records_of}
 use Rattle.ckr_library.specs.NameMaps.{Name, entry_at, same_name}
-use Rattle.ckr_points.specs.Marks.{is_marked_absent, mark_at, present_at}
+use Rattle.ckr_points.specs.Marks.{is_marked_absent, present_at}
 use Rattle.ckr_points.specs.Office.{Office}
 use Rattle.ckr_points.specs.Restart.{kept_at}
 use Rattle.ckr_points.specs.Rows.{KeptEntry, TableSet}
 use Rattle.ckr_points_invariant.specs.Readiness.{KeepsEntry}
 use Rattle.ckr_points_invariant.specs.WrittenEntries.{AreWrittenEntries, HasWrittenEntries, IsWrittenEntry, is_behind_mark, is_no_shorter}
 use Rattle.ckr_points_invariant.proofs.WrittenEntries.Entries.{all-each}
-
--- what a mark has isn't marked absent
-present-there : (marks : List Mark) (name : Name) (present : Present) → present_at marks name ≡ Some present → is_marked_absent marks name ≡ false
-present-there marks name present = by (mark_at marks name)
-  where
-    by : (mark : Option Mark) → option_map_or (λ (mark : Mark). mark.present) mark None ≡ Some present → option_map_or (λ (mark : Mark). is_none mark.present) mark false ≡ false
-    by None e = refl
-    by (Some mark) e = ap is_none e
+use Rattle.ckr_points_invariant.proofs.WrittenEntries.Restarts.{present-there}
 
 -- an entry ends behind one length, and within another one
 longer-within : (end one other : ℕ) → not (nat_le end one) ≡ true → nat_le end other ≡ true → one ≤ other

@@ -9,8 +9,9 @@ use Rattle.ckr_points_tables.specs.RunJobs.{IsFitting, JobView, continued_view, 
 use Rattle.ckr_points_tables.specs.Selection.{begun_facts, entries_in, resumed, resumption_of}
 use Rattle.ckr_points_tables.specs.View.{code_of, facts_of, point_of, seen_by, table_of, written_of}
 use Rattle.ckr_points_tables.proofs.ContinuedRuns.{continued-fits}
-use Rattle.ckr_points_tables.proofs.Preparations.{point-seen, prepared-entryless, prepared-pointless, prepared-so}
+use Rattle.ckr_points_tables.proofs.Preparations.{prepared-entryless, prepared-pointless, prepared-so}
 use Rattle.ckr_points_tables.proofs.continuation.continuation.Goals as goal
+use Rattle.ckr_points_tables.proofs.Steps.{point-mapped}
 
 pub returns-in_default-clause-facts : goal.returns-in_default-clause-facts
 returns-in_default-clause-facts c =
@@ -18,7 +19,7 @@ returns-in_default-clause-facts c =
     let points = c.args.earlier.now.points.items in
     let none : None ≡ point_at (map point_of points) c.args.step =
     ap (option_map point_of) (ap option_copied (sym c.in_default.is) ∙ c.point_at.ensures)
-    ∙ point-seen c.as_slice.result.now c.args.step ∙ ap (λ all. point_at (map point_of all) c.args.step) c.as_slice.ensures in
+    ∙ point-mapped c.as_slice.result.now c.args.step ∙ ap (λ all. point_at (map point_of all) c.args.step) c.as_slice.ensures in
     prepared-pointless (mark_now (seen_by table_of sets)) (entries_in (map written_of c.args.writings.now) sets) c.args.run c.args.number c.args.own.now.deck (facts_of c.args.earlier.now) c.args.step c.args.id.now none
 
 pub returns-in_default-resumption_for-clause-facts : goal.returns-in_default-resumption_for-clause-facts
@@ -28,7 +29,7 @@ returns-in_default-resumption_for-clause-facts c =
     let point = point_of c.in-Some.point.now in
     let entries = entries_in (map written_of c.args.writings.now) sets in
     let pointed : Some point ≡ point_at (map point_of points) c.args.step =
-    ap (option_map point_of) c.in-Some.ensures ∙ point-seen c.as_slice.result.now c.args.step ∙ ap (λ all. point_at (map point_of all) c.args.step) c.as_slice.ensures in
+    ap (option_map point_of) c.in-Some.ensures ∙ point-mapped c.as_slice.result.now c.args.step ∙ ap (λ all. point_at (map point_of all) c.args.step) c.as_slice.ensures in
     let none : None ≡ resumed entries c.args.own.now.deck c.args.step point c.args.id.now =
     ap (option_map resumption_of) (sym c.in_default-resumption_for.is) ∙ c.resumption_for.ensures ∙ ap (λ (deck : Job). resumed entries deck c.args.step point c.args.id.now) c.deck.ensures in
     prepared-entryless (mark_now (seen_by table_of sets)) entries c.args.run c.args.number c.args.own.now.deck (facts_of c.args.earlier.now) c.args.step c.args.id.now point pointed none
@@ -42,7 +43,7 @@ returns-clause-facts c =
     let now = mark_now (seen_by table_of sets) in
     let entries = entries_in (map written_of c.args.writings.now) sets in
     let pointed : Some point ≡ point_at (map point_of points) c.args.step =
-    ap (option_map point_of) c.in-Some.ensures ∙ point-seen c.as_slice.result.now c.args.step ∙ ap (λ all. point_at (map point_of all) c.args.step) c.as_slice.ensures in
+    ap (option_map point_of) c.in-Some.ensures ∙ point-mapped c.as_slice.result.now c.args.step ∙ ap (λ all. point_at (map point_of all) c.args.step) c.as_slice.ensures in
     let is : Some at ≡ resumed entries c.args.own.now.deck c.args.step point c.args.id.now =
     c.in-Some-resumption_for.ensures ∙ ap (λ (deck : Job). resumed entries deck c.args.step point c.args.id.now) c.deck.ensures in
     let there : is_some (step_at (effective c.args.number c.args.earlier.now.job) c.args.step) ≡ true = sym (c.has_step.ensures c.args.number) ∙ search rules in

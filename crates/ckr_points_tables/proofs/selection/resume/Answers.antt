@@ -7,8 +7,8 @@ use Rattle.ckr_points.specs.Marks.{point_at}
 use Rattle.ckr_points_tables.specs.RunJobs.{own_of}
 use Rattle.ckr_points_tables.specs.Selection.{Resumption, entries_in, lost_by, resumed, resumption_of, sets_resumed}
 use Rattle.ckr_points_tables.specs.View.{facts_of, point_of, written_of}
-use Rattle.ckr_points_tables.proofs.Preparations.{point-seen}
 use Rattle.ckr_points_tables.proofs.selection.resume.Goals as goal
+use Rattle.ckr_points_tables.proofs.Steps.{point-mapped}
 
 twice : (b : Bool) → not (not b) ≡ b
 twice true = refl
@@ -21,7 +21,7 @@ returns-in_default c = λ own point at there pointed is.
 pub returns-in_default-point_at : goal.returns-in_default-point_at
 returns-in_default-point_at c = λ own point at there pointed is.
     absurd (some-not-none point (sym (ap (option_map point_of) (ap option_copied (sym c.in_default-point_at.is) ∙ c.point_at.ensures)
-    ∙ point-seen c.as_slice.result.now c.args.step ∙ ap (λ all. point_at (map point_of all) c.args.step) c.as_slice.ensures ∙ pointed)))
+    ∙ point-mapped c.as_slice.result.now c.args.step ∙ ap (λ all. point_at (map point_of all) c.args.step) c.as_slice.ensures ∙ pointed)))
 
 pub returns-in_default-resumption_for : goal.returns-in_default-resumption_for
 returns-in_default-resumption_for c = λ own point at there pointed is.
@@ -29,7 +29,7 @@ returns-in_default-resumption_for c = λ own point at there pointed is.
     let entries = entries_in (map written_of c.args.writings.now) sets in
     let deck = c.args.next.now.job.deck in
     let found : Some (point_of c.in-Some-point_at.point.now) ≡ Some point =
-    ap (option_map point_of) c.in-Some-point_at.ensures ∙ point-seen c.as_slice.result.now c.args.step ∙ ap (λ all. point_at (map point_of all) c.args.step) c.as_slice.ensures ∙ pointed in
+    ap (option_map point_of) c.in-Some-point_at.ensures ∙ point-mapped c.as_slice.result.now c.args.step ∙ ap (λ all. point_at (map point_of all) c.args.step) c.as_slice.ensures ∙ pointed in
     let same = same_Some (point_of c.in-Some-point_at.point.now) point found in
     absurd (some-not-none at (sym
     (ap (option_map resumption_of) (sym c.in_default-resumption_for.is) ∙ c.resumption_for.ensures
@@ -42,7 +42,7 @@ returns c = λ own point at there pointed is.
     let job = c.args.next.now.job in
     let entries = entries_in (map written_of c.args.writings.now) sets in
     let found : Some (point_of c.in-Some-point_at.point.now) ≡ Some point =
-    ap (option_map point_of) c.in-Some-point_at.ensures ∙ point-seen c.as_slice.result.now c.args.step ∙ ap (λ all. point_at (map point_of all) c.args.step) c.as_slice.ensures ∙ pointed in
+    ap (option_map point_of) c.in-Some-point_at.ensures ∙ point-mapped c.as_slice.result.now c.args.step ∙ ap (λ all. point_at (map point_of all) c.args.step) c.as_slice.ensures ∙ pointed in
     let same = same_Some (point_of c.in-Some-point_at.point.now) point found in
     let here : own_of c.in-Some.own ≡ own = same_Some (own_of c.in-Some.own) own (c.in-Some.ensures.step ∙ there) in
     let so : resumption_of c.in-Some-resumption_for.at ≡ at =

@@ -1,11 +1,11 @@
 use Rattle.std.proofs.Common.{ap}
 use Rattle.ckr_points_tables.specs.View.{RoomyTables}
 use Rattle.ckr_desk.proofs.Layouts.{kept-moved}
-use Rattle.ckr_desk.proofs.Turns.Checkpoints.{all-counted}
 use Rattle.ckr_desk.proofs.desk.Desk.pass.Goals as goal
+use Rattle.ckr_desk_memory.proofs.RunningSteps.Served.{counted-all}
 
 pub pass-requires : goal.pass-requires
-pass-requires g c = record { counted = all-counted c.self.inside.store.layout c.self.inside.jobs.running c.self.invariant.are.running }
+pass-requires g c = record { counted = counted-all c.self.inside.store.layout c.self.inside.jobs.running c.self.invariant.are.running }
 
 pub invariant_of-self : goal.invariant_of-self
 invariant_of-self g c =

@@ -1,6 +1,7 @@
 use Rattle.std.proofs.Common.{◌≡◌, ◌∙◌, sym, subst, ap, false, OnOk, Result, Err}
 use Rattle.ckr_book.specs.Book.{room_of}
 use Rattle.ckr_desk_memory.specs.OwnSteps.{PlanFollows}
+use Rattle.ckr_desk_memory.proofs.Holders.OwnUnits.{told-leaves}
 use Rattle.ckr_outside.specs.Moments.{at_the_end}
 use Rattle.ckr_desk_store.specs.State.{StoreView}
 use Rattle.ckr_points_tables.specs.View.{RoomyTables}
@@ -14,7 +15,7 @@ use Rattle.ckr_desk.proofs.Turns.Plans.{behind-takes, go-of-disk}
 use Rattle.ckr_desk.proofs.Turns.Preparation.{came-of-disk}
 use Rattle.ckr_desk.proofs.Units.Questions.{went-rests}
 use Rattle.ckr_desk.proofs.Units.Turn.{went-asks}
-use Rattle.ckr_desk.proofs.Units.Readiness.{ready-behind, settled-so, unit-knows, unit-leaves}
+use Rattle.ckr_desk.proofs.Units.Readiness.{ready-behind, settled-so, unit-knows}
 use Rattle.ckr_desk.specs.Requests.{came_by, spelled}
 use Rattle.ckr_desk.specs.Soundness.{KeepsWithin, state_of}
 use Rattle.ckr_desk.specs.State.{DeskView}
@@ -59,7 +60,7 @@ pub go_on-requires-clause-commits : goal.go_on-requires-clause-commits
 go_on-requires-clause-commits g c κs within = c.in_ok-done_unit.ensures.commits c.requires.ahead.0 c.args.ahead.plan c.requires.ahead.1.looked
 
 pub go_on-requires-clause-leaves : goal.go_on-requires-clause-leaves
-go_on-requires-clause-leaves g c κs within = unit-leaves c.done_unit.new.self.jobs.failed c.args.ahead.plan c.requires.ahead.1.looked.shape
+go_on-requires-clause-leaves g c κs within = told-leaves c.done_unit.new.self.jobs.failed c.args.ahead.plan c.requires.ahead.1.looked.shape
 
 pub go_on-requires-clause-ready : goal.go_on-requires-clause-ready
 go_on-requires-clause-ready g c κs within =
