@@ -6,10 +6,10 @@ use Rattle.ckr_points.specs.declared.run.RunState.TheVariants.{Held, Queued}
 use Rattle.ckr_points.specs.Follows.{is_in_state, of_run}
 use Rattle.ckr_points.specs.Restart.{Decked}
 use Rattle.ckr_points.specs.Rows.{TablesModel}
-use Rattle.ckr_desk_turn.specs.Model.Cards.{kept_of_stored}
-use Rattle.ckr_desk_turn.specs.Model.Submissions.{submission_of}
-use Rattle.ckr_desk_turn.specs.Model.Submission.{Submission}
-use Rattle.ckr_desk_turn.specs.Model.Submission.TheVariants as Decks
+use Rattle.ckr_desk_turn.specs.Cards.{kept_of_stored}
+use Rattle.ckr_desk_turn.specs.Submissions.{submission_of}
+use Rattle.ckr_desk_turn.specs.declared.submit.Submission.{Submission}
+use Rattle.ckr_desk_turn.specs.declared.submit.Submission.TheVariants as Decks
 use Rattle.ckr_desk_turn.specs.declared.reply.Submitted.{Submitted}
 use Rattle.ckr_desk_turn.specs.declared.reply.Submitted.TheVariants.{Job, Refused}
 

@@ -30,11 +30,11 @@ use Rattle.ckr_points_tables.specs.Rewrite.{has_master, has_set, master_dd}
 use Rattle.ckr_points_tables.specs.View.{has_few_dds, is_within_limits}
 use Rattle.ckr_uses.specs.SetNames.{origin_name, run_name}
 use Rattle.ckr_uses.specs.Uses.{are_distinct}
-use Rattle.ckr_desk_turn.specs.Model.DeckLimits.{HasNamesOnce, IsWithinLimits}
-use Rattle.ckr_desk_turn.proofs.DeckLimits.{few_steps, steps_within}
-use Rattle.ckr_desk_turn.proofs.JobForm.{steps_once}
-use Rattle.ckr_desk_turn.proofs.OrderlyDecks.{deck-orderly}
-use Rattle.ckr_desk_turn.proofs.SyschkNames.{deck-syschk}
+use Rattle.ckr_desk_turn.specs.DeckLimits.{HasNamesOnce, IsWithinLimits}
+use Rattle.ckr_desk_turn.proofs.Decks.DeckLimits.{few_steps, steps_within}
+use Rattle.ckr_desk_turn.proofs.Decks.JobForm.{steps_once}
+use Rattle.ckr_desk_turn.proofs.Decks.OrderlyDecks.{deck-orderly}
+use Rattle.ckr_desk_turn.proofs.Decks.SyschkNames.{deck-syschk}
 use Rattle.ckr_desk_memory.proofs.Masters.{by-role}
 use Rattle.ckr_desk_memory.proofs.Starts.Steps.{row-among}
 use Rattle.ckr_desk_memory.specs.Invariant.{IsAcceptedRow}

@@ -25,7 +25,7 @@ use Rattle.ckr_jcl_decks.specs.Parts.DeckText.{closed, current_step, dd_in, dd_t
 use Rattle.ckr_jcl_decks.specs.Deck.{bytes_of, dd_of, job_of, named_origin, origin_of, step_with, stored_deck}
 use Rattle.ckr_jcl_decks.proofs.CardLimit.{few-cards}
 use Rattle.ckr_jcl_decks.proofs.Refusals.{job_law}
-use Rattle.ckr_desk_turn.proofs.DeckTests.{OfStep, steps_hold}
+use Rattle.ckr_desk_turn.proofs.Decks.DeckTests.{OfStep, steps_hold}
 
 -- ---- statements
 

@@ -13,7 +13,7 @@ use Rattle.ckr_points.specs.Follows.{follows}
 use Rattle.ckr_points.specs.Restart.{after_event}
 use Rattle.ckr_points.specs.Rows.{TablesModel}
 use Rattle.ckr_points.specs.Soundness.{AreLaidOut}
-use Rattle.ckr_desk_turn.specs.Model.Cards.{kept_deck, stored_of_kept}
+use Rattle.ckr_desk_turn.specs.Cards.{kept_deck, stored_of_kept}
 use Rattle.ckr_points_tables.specs.Invariant.{IsAnySubmittable, MayCount, MaySubmit}
 use Rattle.ckr_desk_turn.specs.Queue.{AreNumbered}
 use Rattle.ckr_desk_memory.specs.Invariant.{AreJobs, IsAcceptedDeck, IsAcceptedRow, IsAnyAccepted, IsPlacedRow, IsRunnable}

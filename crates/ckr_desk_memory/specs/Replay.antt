@@ -7,7 +7,7 @@ use Rattle.ckr_jcl.specs.declared.deck.Job.{Job}
 use Rattle.ckr_points.specs.Follows.{follows}
 use Rattle.ckr_points.specs.Restart.{after_event}
 use Rattle.ckr_points.specs.Rows.{TablesModel}
-use Rattle.ckr_desk_turn.specs.Model.Cards.{kept_deck}
+use Rattle.ckr_desk_turn.specs.Cards.{kept_deck}
 use Rattle.ckr_desk_turn.specs.Spelling.{IsCode}
 use Rattle.ckr_volumes.specs.declared.layout.Layout.{Layout}
 

@@ -20,7 +20,7 @@ ghost use Rattle.ckr_points.specs.declared.run.RunState.TheVariants.{Held, Queue
 ghost use Rattle.ckr_points.specs.Rows.{RunRow, run_of};
 ghost use Rattle.ckr_desk_refines.specs.Moves.{HasSameRecords, HasWaited, HaveMoved, KnowsItsEntry};
 ghost use Rattle.ckr_desk_refines.specs.Standing.{StandsForDesk, StandsBut};
-ghost use Rattle.ckr_desk_turn.specs.Model.Cards.{kept_of_stored};
+ghost use Rattle.ckr_desk_turn.specs.Cards.{kept_of_stored};
 ghost use Rattle.ckr_desk_turn.specs.declared.plan.Plan.TheVariants.{Tell, Wait};
 ghost use Rattle.ckr_points.specs.declared.reply.Reply.{Reply};
 ghost use Rattle.ckr_desk_turn.specs.Desk.{DeskModel, behind, jobs_of, purged as purged_desk, released as released_desk, submitted as submitted_desk};

@@ -13,8 +13,8 @@ use Rattle.ckr_jcl.specs.declared.deck.Step.{Step}
 use Rattle.ckr_jcl_decks.specs.Deck.{stored_deck}
 use Rattle.ckr_meaning.specs.EffectiveJob.{Effective, OwnedStep, name_of, owned_by, plain_job, step_at}
 use Rattle.ckr_meaning.specs.JobRun.{StepCodes, is_bypassed}
-use Rattle.ckr_points_decks.proofs.DeckLimits.{few_steps, steps_within}
-use Rattle.ckr_points_decks.specs.DeckLimits.{HasCheckParts, IsWithinLimits}
+use Rattle.ckr_desk_turn.proofs.Decks.DeckLimits.{few_steps, steps_within}
+use Rattle.ckr_desk_turn.specs.DeckLimits.{HasCheckParts, IsWithinLimits}
 use Rattle.ckr_points_invariant.proofs.Select.Invariant.{owns_step}
 use Rattle.ckr_points_library.specs.AllocationSteps.{fits_named}
 use Rattle.ckr_points.specs.Restart.{spliced}

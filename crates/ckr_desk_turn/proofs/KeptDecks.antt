@@ -6,7 +6,7 @@ use Rattle.std.proofs.lemmas.Option.{same_Some}
 use Rattle.ckr_jcl.specs.declared.deck.Job.{Job}
 use Rattle.ckr_jcl_decks.specs.Deck.{stored_deck}
 use Rattle.ckr_jcl_decks.specs.Parts.Fault.{Fault}
-use Rattle.ckr_points_decks.specs.Cards.{job_in, kept_deck, stored_of_kept, with_short_mark}
+use Rattle.ckr_desk_turn.specs.Cards.{job_in, kept_deck, stored_of_kept, with_short_mark}
 
 -- it is read from them
 pub kept_read : (cards : List ℕ) (deck : Job) → kept_deck cards ≡ Some deck → stored_deck (stored_of_kept cards) ≡ Ok deck

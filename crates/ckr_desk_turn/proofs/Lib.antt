@@ -29,12 +29,4 @@ pub mod Queue
 pub mod Checkpoints
 pub mod CheckSets
 pub mod PassedLists
-pub use Rattle.ckr_points_decks.proofs.AllocationNeeds
-pub use Rattle.ckr_points_decks.proofs.DeckLimits
-pub use Rattle.ckr_points_decks.proofs.DeckTests
-pub use Rattle.ckr_points_decks.proofs.JobForm
-pub use Rattle.ckr_points_decks.proofs.KeptCards
-pub use Rattle.ckr_points_decks.proofs.OrderlyDecks
-pub use Rattle.ckr_points_decks.proofs.Origins
-pub use Rattle.ckr_points_decks.proofs.SyschkNames
-pub use Rattle.ckr_points_decks.proofs.Texts
+pub mod Decks

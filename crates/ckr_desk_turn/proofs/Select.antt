@@ -16,9 +16,9 @@ use Rattle.ckr_jcl_decks.specs.Deck.{stored_deck}
 use Rattle.ckr_meaning.specs.LibrarySet.{AreWithinSpace}
 use Rattle.ckr_meaning.specs.declared.place.Place.TheVariants.{Before}
 use Rattle.ckr_meaning.specs.JobRun.{start_at}
-use Rattle.ckr_points_decks.proofs.OrderlyDecks.{deck-orderly}
-use Rattle.ckr_points_decks.proofs.KeptCards.{kept_long}
-use Rattle.ckr_points_decks.specs.Cards.{kept_of_stored}
+use Rattle.ckr_desk_turn.proofs.Decks.OrderlyDecks.{deck-orderly}
+use Rattle.ckr_desk_turn.proofs.Decks.KeptCards.{kept_long}
+use Rattle.ckr_desk_turn.specs.Cards.{kept_of_stored}
 use Rattle.ckr_points.specs.declared.run.RunState.{RunState}
 use Rattle.ckr_points.specs.declared.run.RunState.TheVariants.{Held as HeldRun, On, Queued, Purged, Released as ReleasedRun}
 use Rattle.ckr_points.specs.Tables.{after_submitted, queued_run}

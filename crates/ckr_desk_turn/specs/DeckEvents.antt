@@ -5,7 +5,7 @@ use Rattle.ckr_events.specs.declared.event.Event.{Event}
 use Rattle.ckr_events.specs.declared.event.Event.TheVariants.{Submitted}
 use Rattle.ckr_jcl.specs.declared.deck.Job.{Job}
 use Rattle.ckr_points.specs.Restart.{Decked}
-use Rattle.ckr_points_decks.specs.Cards.{kept_deck}
+use Rattle.ckr_desk_turn.specs.Cards.{kept_deck}
 
 -- the deck of an event is that of its cards
 abbrev pub IsKeptDeck : List ℕ → Option Job → Type 0

@@ -12,6 +12,9 @@ pub mod Spelling
 pub mod Units
 pub mod Due
 pub mod DeckEvents
+pub mod Cards
+pub mod DeckLimits
+pub mod Submissions
 pub mod EntryStates
 pub mod Checkpoints
 pub mod CheckSets
@@ -23,4 +26,3 @@ pub mod Stints
 pub mod Restarts
 pub mod Deferred
 pub mod Permissions
-pub mod Model

@@ -1,7 +1,10 @@
-//! What a turn of the desk comes to, with its reply and its event or none, and that turns keep the events of the desk.
+//! What becomes of a deck, and the event that keeps its cards; what a turn of the desk comes to, with its reply and its event or none, and that
+//! turns keep the events of the desk.
 #![tactic(auto)]
 
+mod cards;
 mod checkpoint_laws;
+mod deck_laws;
 mod deferred_laws;
 mod entry_form_laws;
 mod event_laws;
@@ -16,10 +19,12 @@ mod reply;
 mod restart_laws;
 mod step_laws;
 mod stint_laws;
+mod submit;
 mod taking;
 mod turn_laws;
 mod unit_laws;
 
+pub use cards::{job_of_kept, submitted_event};
 pub use checkpoint_laws::{
     cancels_are_due_behind_checkpoints, checkpoints_are_due_once, checkpoints_leave_kept_events,
     entries_have_the_state_of_the_program, entries_in_range_have_a_spelling,
@@ -27,6 +32,10 @@ pub use checkpoint_laws::{
 };
 pub use ckr_points::{Chkpt, How, Reply};
 pub use ckr_points_library::Cause;
+pub use deck_laws::{
+    accepted_decks_are_formed, accepted_decks_are_within_limits, accepted_decks_have_check_parts,
+    dds_of_accepted_decks_fit, names_stand_once_in_each_step, what_is_kept_is_the_deck,
+};
 pub use deferred_laws::deferred_restarts_are_judged;
 pub use entry_form_laws::{
     check_sets_have_records_of_256_bytes, next_entries_have_an_identifier, passed_lists_are_short,
@@ -53,6 +62,7 @@ pub use step_laws::{
     next_units_keep_the_desk, turns_within_a_step_keep_the_desk, units_keep_the_desk,
 };
 pub use stint_laws::stints_end_within_their_turns;
+pub use submit::{Submission, submission_of};
 pub use taking::{Taking, gives_up};
 pub use turn_laws::{
     desks_behind_calls, desks_behind_steps_that_start, desks_behind_turns,
@@ -63,6 +73,3 @@ pub use unit_laws::{
     codes_of_units_are_those_of_the_work, last_units_keep_the_desk, rewrites_keep_the_desk,
     work_keeps_the_desk,
 };
-
-/// Decks, as the crates above this one take them.
-pub use ckr_points_decks::{Submission, job_of_kept, submission_of, submitted_event};

@@ -20,7 +20,7 @@ ghost use Rattle.ckr_points.specs.Payload.{carries};
 ghost use Rattle.ckr_points.specs.Restart.{place_of, step_in};
 ghost use Rattle.ckr_points.specs.Rows.{RunRow, run_of};
 ghost use Rattle.ckr_points_invariant.specs.Invariant.{AreAlike, IsFree, IsKept};
-ghost use Rattle.ckr_points_decks.specs.Cards.{kept_of_stored};
+ghost use Rattle.ckr_desk_turn.specs.Cards.{kept_of_stored};
 ghost use Rattle.ckr_desk_turn.specs.Allocation.{allocation_of};
 ghost use Rattle.ckr_desk_turn.specs.Select.{run_on_initiator};
 ghost use Rattle.ckr_desk_turn.specs.Desk.{DeskModel, jobs_of, purged as purged_desk, released as released_desk, submitted as submitted_desk};

@@ -2,8 +2,8 @@
 
 use crate::decks::{are_cards, cards_of};
 use ckr_base::NoMemory;
+use ckr_desk_turn::{Submission, job_of_kept, submission_of, submitted_event};
 use ckr_events::Event;
-use ckr_points_decks::{Submission, job_of_kept, submission_of, submitted_event};
 use std::alloc::Global;
 use std::test::Fail;
 

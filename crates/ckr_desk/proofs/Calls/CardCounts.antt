@@ -7,9 +7,9 @@ use Rattle.ckr_jcl_decks.specs.Parts.Fault.{Fault}
 use Rattle.ckr_desk_memory.specs.Invariant.{IsAcceptedRow}
 use Rattle.ckr_points.specs.Tables.{queued_run}
 use Rattle.ckr_desk_turn.proofs.AdmittedSteps.{own-step}
-use Rattle.ckr_desk_turn.specs.Model.Submissions.{submission_by, submission_of}
-use Rattle.ckr_desk_turn.specs.Model.Submission.{Submission}
-use Rattle.ckr_desk_turn.specs.Model.Submission.TheVariants.{Accepted, Refused}
+use Rattle.ckr_desk_turn.specs.Submissions.{submission_by, submission_of}
+use Rattle.ckr_desk_turn.specs.declared.submit.Submission.{Submission}
+use Rattle.ckr_desk_turn.specs.declared.submit.Submission.TheVariants.{Accepted, Refused}
 
 -- ---- what is accepted
 

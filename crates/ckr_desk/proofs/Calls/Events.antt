@@ -25,8 +25,8 @@ use Rattle.ckr_desk_refines.specs.RewriteRecord.{RewriteRecord, rewrite_of}
 use Rattle.ckr_desk_refines.specs.Moves.{HasSameRecords, HaveMoved}
 use Rattle.ckr_desk_refines.specs.Standing.{StandsForDesk}
 use Rattle.ckr_desk_store.specs.OpenImages.{Opens, event_records}
-use Rattle.ckr_desk_turn.proofs.KeptCards.{kept_accepted}
-use Rattle.ckr_desk_turn.specs.Model.Cards.{kept_of_stored}
+use Rattle.ckr_desk_turn.proofs.Decks.KeptCards.{kept_accepted}
+use Rattle.ckr_desk_turn.specs.Cards.{kept_of_stored}
 use Rattle.ckr_desk_refines.proofs.Events.Turns.{purged-committed, purged-stands, release-stands, released-committed, submitted-committed, submitted-stands}
 use Rattle.ckr_desk_turn.specs.Desk.{DeskModel, behind}
 use Rattle.ckr_volumes.specs.declared.layout.Layout.{Layout}

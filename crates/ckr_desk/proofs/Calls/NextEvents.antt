@@ -8,8 +8,8 @@ use Rattle.ckr_events.specs.declared.event.Event.TheVariants.{Submitted}
 use Rattle.ckr_jcl.specs.declared.deck.Job.{Job}
 use Rattle.ckr_points.specs.Follows.{follows}
 use Rattle.ckr_points.specs.Rows.{TablesModel}
-use Rattle.ckr_desk_turn.proofs.KeptCards.{kept_long}
-use Rattle.ckr_desk_turn.specs.Model.Cards.{kept_of_stored}
+use Rattle.ckr_desk_turn.proofs.Decks.KeptCards.{kept_long}
+use Rattle.ckr_desk_turn.specs.Cards.{kept_of_stored}
 use Rattle.ckr_volumes.specs.declared.layout.Layout.{Layout}
 use Rattle.ckr_desk.specs.Submit.{job_number, next_number}
 

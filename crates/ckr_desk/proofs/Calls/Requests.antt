@@ -17,11 +17,11 @@ use Rattle.ckr_points_invariant.proofs.Holders.Rows.{queued-is}
 use Rattle.ckr_desk_refines.specs.Moves.{HasSameRecords}
 use Rattle.ckr_desk_store.specs.OpenImages.{event_records}
 use Rattle.ckr_desk_store.specs.State.{IsSound, StoreView}
-use Rattle.ckr_desk_turn.proofs.KeptCards.{kept_long, submitted_spelled}
-use Rattle.ckr_desk_turn.specs.Model.Cards.{kept_of_stored}
-use Rattle.ckr_desk_turn.specs.Model.Submissions.{submission_of}
-use Rattle.ckr_desk_turn.specs.Model.Submission.{Submission}
-use Rattle.ckr_desk_turn.specs.Model.Submission.TheVariants.{Accepted, Refused}
+use Rattle.ckr_desk_turn.proofs.Decks.KeptCards.{kept_long, submitted_spelled}
+use Rattle.ckr_desk_turn.specs.Cards.{kept_of_stored}
+use Rattle.ckr_desk_turn.specs.Submissions.{submission_of}
+use Rattle.ckr_desk_turn.specs.declared.submit.Submission.{Submission}
+use Rattle.ckr_desk_turn.specs.declared.submit.Submission.TheVariants.{Accepted, Refused}
 use Rattle.ckr_volumes.specs.declared.layout.Layout.{Layout}
 use Rattle.ckr_desk.proofs.Turns.Preparation.{same-unchanged}
 use Rattle.ckr_desk.proofs.Calls.Events.{IsCalled, called-deck, called-kept, called-purged, called-released, called-state, called-trusted}

@@ -12,7 +12,7 @@ use Rattle.ckr_desk_turn.specs.DeckEvents.{AreDeckEvents, IsDeckEvent, IsKeptDec
 use Rattle.ckr_points.specs.Follows.{follows, is_empty}
 use Rattle.ckr_points.specs.Restart.{after_event}
 use Rattle.ckr_points.specs.Rows.{TablesModel}
-use Rattle.ckr_desk_turn.specs.Model.Cards.{kept_deck}
+use Rattle.ckr_desk_turn.specs.Cards.{kept_deck}
 use Rattle.ckr_volumes.specs.declared.layout.Layout.{Layout}
 use Rattle.ckr_desk.specs.Opening.{behind_read, behind_record, behind_records, or_bad}
 use Rattle.ckr_desk.specs.Soundness.{decked_by, events_in}

@@ -10,7 +10,7 @@ use Rattle.ckr_desk_memory.specs.Replay.{deck_of, goes_on, replayed}
 use Rattle.ckr_jcl_decks.proofs.CardLimit.{few-stored}
 use Rattle.ckr_desk_turn.proofs.KeptDecks.{kept_read, stored_long}
 use Rattle.ckr_desk_turn.specs.DeckEvents.{IsKeptDeck}
-use Rattle.ckr_desk_turn.specs.Model.Cards.{kept_deck, stored_of_kept}
+use Rattle.ckr_desk_turn.specs.Cards.{kept_deck, stored_of_kept}
 use Rattle.ckr_jcl.specs.declared.deck.Job.{Job}
 use Rattle.ckr_points.specs.Rows.{TablesModel}
 use Rattle.ckr_volumes.specs.declared.layout.Layout.{Layout}

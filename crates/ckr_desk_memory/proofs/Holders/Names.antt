@@ -22,7 +22,7 @@ use Rattle.ckr_points.specs.Payload.{has_role, has_set, is_formed_step}
 use Rattle.ckr_points.specs.RuleCases.{is_ended}
 use Rattle.ckr_points.specs.Rows.{RunRow, TablesModel, run_of, step_of_run}
 use Rattle.ckr_points.specs.Tables.{is_updates}
-use Rattle.ckr_desk_turn.proofs.OrderlyDecks.{deck-orderly}
+use Rattle.ckr_desk_turn.proofs.Decks.OrderlyDecks.{deck-orderly}
 use Rattle.ckr_points_invariant.specs.Invariant.{AreOrderly, Leaves, leaves_dd}
 use Rattle.ckr_points_invariant.specs.JobNames.{IsKin, IsNameOf, has_ended}
 use Rattle.ckr_points_invariant.proofs.Continuations.ReachedNames.OwnSteps.{among-rest}

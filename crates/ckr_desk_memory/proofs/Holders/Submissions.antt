@@ -18,7 +18,7 @@ use Rattle.ckr_points.specs.RuleCases.{is_ended}
 use Rattle.ckr_points.specs.Rows.{RunRow, TablesModel, run_of}
 use Rattle.ckr_points.specs.Tables.{after_submitted, queued_run}
 use Rattle.ckr_desk_turn.proofs.AdmittedSteps.{queued-admitted}
-use Rattle.ckr_desk_turn.proofs.OrderlyDecks.{deck-orderly}
+use Rattle.ckr_desk_turn.proofs.Decks.OrderlyDecks.{deck-orderly}
 use Rattle.ckr_points_invariant.specs.JobNames.{AreKin, IsKin, KeepsJobNames, has_ended}
 use Rattle.ckr_points_invariant.proofs.Continuations.ReachedNames.OwnSteps.{owner-is}
 use Rattle.ckr_points_invariant.proofs.Holders.DeckNames.{deck-named, names-owned}

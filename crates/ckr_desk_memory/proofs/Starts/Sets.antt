@@ -35,8 +35,8 @@ use Rattle.ckr_steps.specs.Files.{dd_in, files_of, input_dd, source_by, source_i
 use Rattle.ckr_steps.specs.Inputs.{AreThere}
 use Rattle.ckr_steps.specs.Places.{HasFewCards, files_at}
 use Rattle.ckr_steps.specs.StepUnit.{AreCounted}
-use Rattle.ckr_desk_turn.specs.Model.DeckLimits.{HasNamesOnce}
-use Rattle.ckr_desk_turn.proofs.JobForm.{steps_once}
+use Rattle.ckr_desk_turn.specs.DeckLimits.{HasNamesOnce}
+use Rattle.ckr_desk_turn.proofs.Decks.JobForm.{steps_once}
 use Rattle.ckr_desk_memory.specs.Plans.{IsAnyCode}
 use Rattle.ckr_desk_memory.specs.Invariant.{IsAcceptedRow, IsRunnable}
 use Rattle.ckr_desk_memory.specs.View.{RunningStepView, begun}

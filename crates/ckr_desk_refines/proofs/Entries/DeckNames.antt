@@ -25,9 +25,9 @@ use Rattle.ckr_library.proofs.Named.{name-same}
 use Rattle.ckr_uses.specs.SetNames.{origin_name, run_name}
 use Rattle.ckr_meaning.specs.EffectiveJob.{OwnedStep, is_among, name_of}
 use Rattle.ckr_points_library.specs.Commit.{is_named}
-use Rattle.ckr_desk_turn.proofs.DeckTests.{OfStep, all_pass, steps_hold}
-use Rattle.ckr_desk_turn.proofs.Origins.{dd_origin, origin-dummy, origin-named, origin-stream, origin-sysout}
-use Rattle.ckr_desk_turn.proofs.Texts.{AreStated, IsReadFrom, IsStated, read_from}
+use Rattle.ckr_desk_turn.proofs.Decks.DeckTests.{OfStep, all_pass, steps_hold}
+use Rattle.ckr_desk_turn.proofs.Decks.Origins.{dd_origin, origin-dummy, origin-named, origin-stream, origin-sysout}
+use Rattle.ckr_desk_turn.proofs.Decks.Texts.{AreStated, IsReadFrom, IsStated, read_from}
 use Rattle.ckr_desk_turn.specs.Invariant.{IsAdmittedStep}
 use Rattle.ckr_desk_turn.proofs.Start.Decks.{IsOfDeck, of-deck}
 

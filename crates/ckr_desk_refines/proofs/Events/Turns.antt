@@ -25,7 +25,7 @@ use Rattle.ckr_points.specs.Office.{office_after}
 use Rattle.ckr_points.specs.Rows.{RunRow, run_of}
 use Rattle.ckr_desk_refines.specs.Moves.{HasSameRecords, HasWaited, HaveMoved, KnowsItsEntry, event_in}
 use Rattle.ckr_desk_refines.specs.Standing.{OwnStands, StandsBut, StandsForDesk}
-use Rattle.ckr_desk_turn.specs.Model.Cards.{kept_of_stored}
+use Rattle.ckr_desk_turn.specs.Cards.{kept_of_stored}
 use Rattle.ckr_desk_turn.specs.declared.plan.Plan.{Plan}
 use Rattle.ckr_desk_turn.specs.declared.plan.Plan.TheVariants.{Rest, Tell, Work, Pass, Take, Ask, Wait}
 use Rattle.ckr_points.specs.declared.reply.Reply.{Reply}

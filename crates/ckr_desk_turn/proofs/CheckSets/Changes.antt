@@ -27,7 +27,7 @@ use Rattle.ckr_meaning.specs.LibrarySet.{SetWays}
 use Rattle.ckr_points.specs.Marks.{present_at, put_back, put_back_catalogs, put_back_length, put_back_lengths}
 use Rattle.ckr_points.specs.Rows.{TableSet, cut_set, table_ways}
 use Rattle.ckr_points.specs.Tables.{committed, fresh_table, is_checkpoints, made_table, made_tables, parts_from}
-use Rattle.ckr_points_decks.specs.DeckLimits.{has_check_records}
+use Rattle.ckr_desk_turn.specs.DeckLimits.{has_check_records}
 use Rattle.ckr_desk_turn.specs.CheckSets.{HasCheckRecords, HaveCheckRecords}
 
 -- ---- data sets that are made

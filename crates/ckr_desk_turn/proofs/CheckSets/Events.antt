@@ -23,7 +23,7 @@ use Rattle.ckr_points.specs.Marks.{point_at, removed_all, with_point, has_passed
 use Rattle.ckr_points.specs.Restart.{Back, after_abnormal, after_continued, after_continued_at, after_ended, after_entry_continued, after_passed_ended, after_put_back, after_restarted, back_to_entry, back_to_start, by_run, by_step, continued_row, deferred_entry, deferred_start, effect_restarted, kept_at, place_of, point_restarted, row_on, step_in, syschk_name}
 use Rattle.ckr_points.specs.Rows.{EffectPoint, KeptEntry, RunRow, StartPoint, TablesModel, run_of, standing_of, step_of_run, table_ways, with_run}
 use Rattle.ckr_points.specs.Tables.{after_cancelled, after_checkpointed, after_commit, after_dispositions, after_held, after_rewritten, after_selected, after_step_ended, earlier_made, is_checkpoints, is_updates, name_with_role, own_made, row_rewritten, run_disposals, table_rewritten}
-use Rattle.ckr_points_decks.specs.DeckLimits.{HasCheckParts}
+use Rattle.ckr_desk_turn.specs.DeckLimits.{HasCheckParts}
 use Rattle.ckr_points_invariant.specs.Invariant.{IsHolder, IsKept}
 use Rattle.ckr_points_invariant.proofs.PutBack.Sets.{removed_all-holds}
 use Rattle.ckr_points_invariant.proofs.Start.Event.{by-start}

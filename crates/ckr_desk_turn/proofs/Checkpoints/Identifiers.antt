@@ -11,7 +11,7 @@ use Rattle.ckr_base.specs.Grammar.{is_check_id, is_name_byte}
 use Rattle.ckr_base.proofs.Bools.{and-first, and-second}
 use Rattle.ckr_base.proofs.Numbers.{nat_le-from, nat_le-true, plus-one}
 use Rattle.ckr_base.proofs.NameBytes.{digits-length, digits-named}
-use Rattle.ckr_points_decks.specs.DeckLimits.{are_ids}
+use Rattle.ckr_desk_turn.specs.DeckLimits.{are_ids}
 use Rattle.ckr_desk_turn.specs.Checkpoints.{id_by}
 
 -- ---- digits

@@ -7,7 +7,7 @@ use Rattle.ckr_library.specs.declared.sets.Content.TheVariants.{Checkpoints}
 use Rattle.ckr_library.specs.NameMaps.{Name, entry_at}
 use Rattle.ckr_library.proofs.Named.{each-at}
 use Rattle.ckr_points.specs.Rows.{TableSet}
-use Rattle.ckr_points_decks.specs.DeckLimits.{HasCheckParts}
+use Rattle.ckr_desk_turn.specs.DeckLimits.{HasCheckParts}
 use Rattle.ckr_desk_turn.specs.CheckSets.{HasCheckRecords, HaveCheckRecords}
 use Rattle.ckr_desk_turn.specs.Checkpoints.{check_set, is_in_range, is_state_in_range, next_entry, next_id, step_entries}
 use Rattle.ckr_desk_turn.specs.Desk.{DeskModel, DeskStep}

@@ -15,9 +15,9 @@ use Rattle.ckr_jcl.specs.declared.deck.Step.{Step}
 use Rattle.ckr_jcl_decks.specs.Deck.{job_of, step_of, step_with, stored_deck}
 use Rattle.ckr_jcl_decks.specs.DeckFaults.{has_step_name, repeated_dd, repeated_in, repeated_name}
 use Rattle.ckr_jcl_decks.specs.Parts.StepText.{StepText}
-use Rattle.ckr_points_decks.proofs.Clashes.{if_none}
-use Rattle.ckr_points_decks.proofs.DeckTests.{OfStep, steps_hold}
-use Rattle.ckr_points_decks.proofs.Texts.{IsReadFrom, read_from}
+use Rattle.ckr_desk_turn.proofs.Decks.Clashes.{if_none}
+use Rattle.ckr_desk_turn.proofs.Decks.DeckTests.{OfStep, steps_hold}
+use Rattle.ckr_desk_turn.proofs.Decks.Texts.{IsReadFrom, read_from}
 
 -- ---- the texts of the steps
 

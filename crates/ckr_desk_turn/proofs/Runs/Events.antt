@@ -18,7 +18,7 @@ use Rattle.ckr_meaning.specs.EffectiveJob.{OwnedStep, placed_in, stamp_of}
 use Rattle.ckr_meaning.specs.LibrarySet.{AreWithinSpace}
 use Rattle.ckr_meaning.specs.declared.place.Place.TheVariants.{Before, Within}
 use Rattle.ckr_points_library.specs.Commit.{output_names}
-use Rattle.ckr_points_decks.specs.Cards.{stored_of_kept}
+use Rattle.ckr_desk_turn.specs.Cards.{stored_of_kept}
 use Rattle.ckr_points.specs.declared.run.RunState.{RunState}
 use Rattle.ckr_points.specs.declared.run.RunState.TheVariants.{Denied, Held as HeldRun, On, Queued, Purged, Released as ReleasedRun}
 use Rattle.ckr_points.specs.Follows.{is_checkpoint, is_empty, is_in_state, is_rewrite, is_running, is_within, lengths_follow, of_step, own_step, state_number}

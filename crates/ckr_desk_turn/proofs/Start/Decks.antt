@@ -22,11 +22,11 @@ use Rattle.ckr_meaning.specs.Allotments.{is_passed}
 use Rattle.ckr_meaning.specs.Dispositions.{Stock}
 use Rattle.ckr_meaning.specs.EffectiveJob.{OwnedStep, name_of, owned_by, placed_from, placed_one, plain_job, step_at}
 use Rattle.ckr_meaning.specs.JobRun.{StepCodes, is_bypassed}
-use Rattle.ckr_points_decks.proofs.AllocationNeeds.{all_fit}
-use Rattle.ckr_points_decks.proofs.CheckParts.{steps_checked}
-use Rattle.ckr_points_decks.proofs.DeckTests.{OfStep, steps_hold}
-use Rattle.ckr_points_decks.proofs.Texts.{IsReadFrom, read_from}
-use Rattle.ckr_points_decks.specs.DeckLimits.{FitsAllocation, HasCheckParts}
+use Rattle.ckr_desk_turn.proofs.Decks.AllocationNeeds.{all_fit}
+use Rattle.ckr_desk_turn.proofs.Decks.CheckParts.{steps_checked}
+use Rattle.ckr_desk_turn.proofs.Decks.DeckTests.{OfStep, steps_hold}
+use Rattle.ckr_desk_turn.proofs.Decks.Texts.{IsReadFrom, read_from}
+use Rattle.ckr_desk_turn.specs.DeckLimits.{FitsAllocation, HasCheckParts}
 use Rattle.ckr_desk_turn.proofs.Start.Items.{IsAsked, Rises}
 
 -- ---- tests of return codes

@@ -1,5 +1,5 @@
 use Rattle.ckr_desk_turn.proofs.Select.{purged-keeps, released-keeps, stored-keeps, submitted-keeps}
-use Rattle.ckr_points_decks.proofs.OrderlyDecks.{deck-orderly}
+use Rattle.ckr_desk_turn.proofs.Decks.OrderlyDecks.{deck-orderly}
 use Rattle.std.proofs.Common.{suc, length}
 use Rattle.ckr_desk_turn.proofs.turn_laws.desks_behind_calls.Goals as goal
 

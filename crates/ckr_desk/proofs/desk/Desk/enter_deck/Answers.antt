@@ -6,7 +6,7 @@ use Rattle.ckr_desk_memory.specs.OwnSteps.{LeavesLeft}
 use Rattle.ckr_events.specs.declared.event.Event.TheVariants.{Submitted}
 use Rattle.ckr_points_tables.specs.Invariant.{MaySubmit}
 use Rattle.ckr_desk_store.specs.State.{IsSound}
-use Rattle.ckr_desk_turn.specs.Model.Cards.{kept_of_stored}
+use Rattle.ckr_desk_turn.specs.Cards.{kept_of_stored}
 use Rattle.ckr_desk.proofs.Calls.CardCounts.{accepted-deck, accepted-row, few-accepted}
 use Rattle.ckr_desk.proofs.Calls.NextEvents.{deck-follows}
 use Rattle.ckr_desk.proofs.Calls.Stops.{nothing-left}

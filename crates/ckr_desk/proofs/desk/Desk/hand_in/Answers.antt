@@ -2,7 +2,7 @@ use Rattle.std.proofs.Common.{◌≡◌, ◌∙◌, ap, subst, sym, refl, IfErr,
 use Rattle.ckr_outside.specs.Disk.{EachSince}
 use Rattle.ckr_desk_store.specs.OpenImages.{event_records}
 use Rattle.ckr_desk_store.specs.State.{IsSound}
-use Rattle.ckr_desk_turn.specs.Model.Submission.{Submission}
+use Rattle.ckr_desk_turn.specs.declared.submit.Submission.{Submission}
 use Rattle.ckr_desk.proofs.Calls.RequestStops.{call-left, on-ok-now}
 use Rattle.ckr_desk.specs.Requests.{event_in}
 use Rattle.ckr_desk.specs.Calls.{HasDone, IsLeftByCall, IsSettledBehind, NotDone, with_event}

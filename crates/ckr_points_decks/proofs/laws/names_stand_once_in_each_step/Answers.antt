@@ -1,5 +1,0 @@
-use Rattle.ckr_points_decks.proofs.JobForm.{job_once, steps_once}
-use Rattle.ckr_points_decks.proofs.laws.names_stand_once_in_each_step.Goals as goal
-
-pub returns : goal.returns
-returns c = record { each = steps_once; job = job_once }

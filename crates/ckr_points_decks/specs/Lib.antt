@@ -1,3 +1,0 @@
-pub mod DeckLimits
-pub mod Cards
-pub mod Submissions
