@@ -4,9 +4,10 @@ use Rattle.std.specs.Option.{option_map_or}
 use Rattle.ckr_base.proofs.Bools.{and-first, and-second}
 use Rattle.ckr_events.specs.declared.event.Made.{Made}
 use Rattle.ckr_events.specs.declared.event.Event.{Event}
-use Rattle.ckr_events.specs.declared.event.Event.TheVariants.{Submitted, Selected, Denied, Started, Rewritten, Checkpointed, Cancelled, StepEnded, Restarted, Held, Released as ReleasedEvent, Ended, Purged}
+use Rattle.ckr_events.specs.declared.event.Event.TheVariants.{Submitted, Selected, Started, Rewritten, Checkpointed, StepEnded, Restarted, Held, Ended}
 use Rattle.ckr_events.specs.declared.event.Ending.{Ending}
 use Rattle.ckr_events.specs.declared.event.Ending.TheVariants.{Completed, Coded, Allocation}
+use Rattle.ckr_events.specs.Jobs.{job_of}
 use Rattle.ckr_jcl.specs.declared.deck.Job.{Job}
 use Rattle.ckr_library.proofs.Named.{at-with_entry}
 use Rattle.ckr_library.specs.Catalog.{Holding, fresh_holding}
@@ -148,7 +149,6 @@ module _ (layout : Layout) (tables : TablesModel) (laid : AreLaidOut layout tabl
   laid-behind (Submitted job cards) (Some deck) follow = laid
   laid-behind (Selected job initiator zero step id) deck follow = by-run (Laid layout tables laid) tables job _ laid (λ row at. laid)
   laid-behind (Selected job initiator (suc before) step id) deck follow = continued_so job initiator before step id deck follow
-  laid-behind (Denied job rule name) deck follow = by-run (Laid layout tables laid) tables job _ laid (λ row at. laid)
   laid-behind (Started job step items) deck follow =
       by-run (Laid layout tables laid) tables job _ laid
       (λ row at.
@@ -169,7 +169,6 @@ module _ (layout : Layout) (tables : TablesModel) (laid : AreLaidOut layout tabl
       (λ owned there.
       checkpointed_so layout tables laid row (record { id = id; run = job; place = place; bytes = bytes }) taken writes lengths.items
       (and-second (is_running row) (lengths_follow tables row lengths.items) (and-first _ (of_step row (is_checkpoint tables id lengths.items place bytes row)) its)) owned there (step_in (place_of row))))
-  laid-behind (Cancelled job) deck follow = by-run (Laid layout tables laid) tables job _ laid (λ row at. laid)
   laid-behind (StepEnded job step rc writes lengths) deck follow =
       by-run (Laid layout tables laid) tables job _ laid
       (λ row at.
@@ -185,10 +184,9 @@ module _ (layout : Layout) (tables : TablesModel) (laid : AreLaidOut layout tabl
       (λ owned there.
       committed_so layout tables laid (record row { state = HeldRun; initiator = None; code = Some code }) lengths.items (and-second (is_running row || is_in_state Released row) (lengths_follow tables row lengths.items) its)
       owned there (step_in (place_of row)) writes))
-  laid-behind (ReleasedEvent job) deck follow = by-run (Laid layout tables laid) tables job _ laid (λ row at. laid)
   laid-behind (Ended job ending) deck follow =
       by-run (Laid layout tables laid) tables job _ laid (λ row at. ended_so layout tables laid row ending (tested tables job (λ row. ended_follows tables row ending) follow row at))
-  laid-behind (Purged job) deck follow = by-run (Laid layout tables laid) tables job _ laid (λ row at. laid)
+  laid-behind event deck follow = by-run (Laid layout tables laid) tables (job_of event) _ laid (λ row at. laid)
 
 -- ---- lengths behind an entry
 

@@ -7,9 +7,10 @@ use Rattle.ckr_points_invariant.specs.EarlierRuns.{continues}
 use Rattle.ckr_base.proofs.Options.{some-not-none}
 use Rattle.std.specs.List.{AllByRecursion}
 use Rattle.ckr_events.specs.declared.event.Event.{Event}
-use Rattle.ckr_events.specs.declared.event.Event.TheVariants.{Submitted, Selected, Denied, Started, Rewritten, Checkpointed, Cancelled, StepEnded, Restarted, Held, Released, Ended, Purged}
+use Rattle.ckr_events.specs.declared.event.Event.TheVariants.{Submitted, Selected, Started, Rewritten, Checkpointed, StepEnded, Restarted, Held, Ended}
 use Rattle.ckr_events.specs.declared.event.Ending.{Ending}
 use Rattle.ckr_events.specs.declared.event.Ending.TheVariants.{Completed, Coded, Allocation}
+use Rattle.ckr_events.specs.Jobs.{job_of}
 use Rattle.ckr_jcl.specs.declared.deck.Job.{Job}
 use Rattle.ckr_meaning.specs.EffectiveJob.{Effective}
 use Rattle.ckr_meaning.specs.declared.place.Place.{Place}
@@ -110,22 +111,19 @@ module _ (tables : TablesModel) (numbered : AreNumbered 1 tables.runs) where
   runs-stay (Submitted job cards) deck plain other = absurd (false≢true (sym other))
   runs-stay (Selected job initiator zero step id) deck plain other = by-run Stay tables job _ refl (λ row at. same_row tables numbered job row at _ refl)
   runs-stay (Selected job initiator (suc before) step id) deck plain other = absurd (false≢true (sym plain))
-  runs-stay (Denied job rule name) deck plain other = by-run Stay tables job _ refl (λ row at. same_row tables numbered job row at _ refl)
   runs-stay (Started job step items) deck plain other =
       by-run Stay tables job _ refl (λ row at. by-step Stay tables (step_of_run row step) _ refl (λ owned there. same_row tables numbered job row at _ refl))
   runs-stay (Rewritten job taken writes lengths place image) deck plain other =
       by-run Stay tables job _ refl (λ row at. by-step Stay tables (step_of_run row (step_in (place_of row))) _ refl (λ owned there. same_row tables numbered job row at _ refl))
   runs-stay (Checkpointed job id taken writes lengths place bytes) deck plain other =
       by-run Stay tables job _ refl (λ row at. by-step Stay tables (step_of_run row (step_in (place_of row))) _ refl (λ owned there. same_row tables numbered job row at _ refl))
-  runs-stay (Cancelled job) deck plain other = by-run Stay tables job _ refl (λ row at. same_row tables numbered job row at _ refl)
   runs-stay (StepEnded job step rc writes lengths) deck plain other =
       by-run Stay tables job _ refl (λ row at. by-step Stay tables (step_of_run row (step_in (place_of row))) _ refl (λ owned there. same_twice tables numbered job row at _ _ refl refl))
   runs-stay (Restarted job initiator code checkpoint) deck plain other = by-run Stay tables job _ refl (λ row at. restarted_same job initiator row at checkpoint)
   runs-stay (Held job code writes lengths) deck plain other =
       by-run Stay tables job _ refl (λ row at. by-step Stay tables (step_of_run row (step_in (place_of row))) _ refl (λ owned there. same_row tables numbered job row at _ refl))
-  runs-stay (Released job) deck plain other = by-run Stay tables job _ refl (λ row at. same_row tables numbered job row at _ refl)
   runs-stay (Ended job ending) deck plain other = by-run Stay tables job _ refl (λ row at. ended_same job row at ending)
-  runs-stay (Purged job) deck plain other = by-run Stay tables job _ refl (λ row at. same_row tables numbered job row at _ refl)
+  runs-stay event deck plain other = by-run Stay tables (job_of event) _ refl (λ row at. same_row tables numbered (job_of event) row at _ refl)
 
 -- ---- what holds of runs that stay
 

@@ -8,10 +8,11 @@ use Rattle.std.proofs.lemmas.List.Sums.{sum_by-cons}
 use Rattle.arrayvec.specs.ArrayVec.{ArrayVec}
 use Rattle.ckr_base.proofs.Bools.{and-first, and-second}
 use Rattle.ckr_events.specs.declared.event.Event.{Event}
-use Rattle.ckr_events.specs.declared.event.Event.TheVariants.{Cancelled, Checkpointed, Denied, Ended, Held, Purged, Released, Restarted, Rewritten, Selected, Started, StepEnded, Submitted}
+use Rattle.ckr_events.specs.declared.event.Event.TheVariants.{Checkpointed, Ended, Held, Restarted, Rewritten, Selected, Started, StepEnded, Submitted}
 use Rattle.ckr_events.specs.declared.event.Ending.{Ending}
 use Rattle.ckr_events.specs.declared.event.Ending.TheVariants.{Allocation, Coded, Completed}
 use Rattle.ckr_events.specs.declared.event.Made.{Made}
+use Rattle.ckr_events.specs.Jobs.{job_of}
 use Rattle.ckr_jcl.specs.declared.deck.Job.{Job}
 use Rattle.ckr_library.specs.declared.sets.Kept.{Kept}
 use Rattle.ckr_library.specs.declared.sets.Stamp.{Stamp}
@@ -22,14 +23,14 @@ use Rattle.ckr_meaning.specs.StepRun.{rewritten_stamp}
 use Rattle.ckr_meaning.specs.declared.place.Place.{Place}
 use Rattle.ckr_meaning.specs.declared.place.Place.TheVariants.{Before, Opened, Within}
 use Rattle.ckr_points_library.specs.Commit.{output_names}
-use Rattle.ckr_points.specs.declared.run.RunState.TheVariants.{Denied as DeniedRun, On, Purged as PurgedRun, Released as ReleasedRun}
+use Rattle.ckr_points.specs.declared.run.RunState.TheVariants.{On}
 use Rattle.ckr_points.specs.Events.{AreSound, AreSoundFrom}
 use Rattle.ckr_points.specs.Follows.{are_items, are_made_clear, follows, is_empty, is_in_state, made_dds, may_start, started_follows}
 use Rattle.ckr_points.specs.Marks.{point_at, with_point, has_passed, without_passed}
 use Rattle.ckr_points.specs.Office.{Office, no_office, office, office_after, office_from}
 use Rattle.ckr_points.specs.Restart.{Back, Decked, after_abnormal, after_check_restart, after_continued, after_continued_at, after_ended, after_entry_continued, after_event, after_passed_ended, after_put_back, after_restarted, after_step_restart, back_to_entry, back_to_start, by_step, continued_row, deferred_entry, deferred_start, effect_restarted, kept_at, place_of, point_restarted, row_on, step_in, syschk_name}
-use Rattle.ckr_points.specs.Rows.{RunRow, StartPoint, TablesModel, run_of, standing_of, step_of_run, table_ways, with_run}
-use Rattle.ckr_points.specs.Tables.{after_cancelled, after_checkpointed, after_commit, after_dispositions, after_held, after_rewritten, after_selected, after_started, after_step_ended, earlier_made, fresh_effect, is_checkpoints, is_updates, name_with_role, own_made, row_rewritten, run_disposals, table_rewritten}
+use Rattle.ckr_points.specs.Rows.{RunRow, StartPoint, TablesModel, run_of, standing_of, step_of_run, table_ways}
+use Rattle.ckr_points.specs.Tables.{after_checkpointed, after_commit, after_dispositions, after_held, after_rewritten, after_selected, after_started, after_step_ended, earlier_made, fresh_effect, is_checkpoints, is_updates, name_with_role, own_made, row_rewritten, run_disposals, table_rewritten}
 use Rattle.ckr_volumes.specs.declared.layout.Layout.{Layout}
 use Rattle.ckr_desk_refines.specs.Counts.{added_by, added_by_all}
 use Rattle.ckr_desk_refines.proofs.Entries.Legs.{tables-behind}
@@ -185,23 +186,20 @@ module _ (layout : Layout) (most : ℕ) (tables : TablesModel) (few : Few most t
   next-few (Selected job initiator (suc before) step id) deck follow =
       by-run (most + 1) tables job (λ row. option_map_or (λ earlier. after_continued row earlier step initiator id tables) (run_of tables (suc before)) tables) more
       (λ row. by-run (most + 1) tables (suc before) (λ earlier. after_continued row earlier step initiator id tables) more (λ earlier. continued-few (most + 1) tables row earlier step initiator id more))
-  next-few (Denied job rule name) deck follow = by-run (most + 1) tables job (λ row. with_run (record row { state = DeniedRun }) tables) more (λ row. more)
   next-few (Started job step items) deck follow = started-next job step items deck follow
   next-few (Rewritten job taken writes lengths place image) deck follow =
       by-step (most + 1) tables job (λ row owned step. after_rewritten row owned step writes lengths.items tables) more (λ row owned step. rewritten-few row owned step writes lengths.items)
   next-few (Checkpointed job id taken writes lengths place bytes) deck follow =
       let entry : Kept = record { id = id; run = job; place = place; bytes = bytes } in
       by-step (most + 1) tables job (λ row owned step. after_checkpointed row owned step entry taken writes lengths.items tables) more (λ row owned step. taken-few (most + 1) tables row owned step entry taken writes lengths.items more)
-  next-few (Cancelled job) deck follow = by-run (most + 1) tables job (λ row. after_cancelled row tables) more (λ row. more)
   next-few (StepEnded job step rc writes lengths) deck follow =
       by-step (most + 1) tables job (λ row owned step. after_step_ended row owned step rc writes lengths.items tables) more (λ row owned step. step_ended-few (most + 1) tables row owned step rc writes lengths.items more)
   next-few (Restarted job initiator code checkpoint) deck follow =
       by-step (most + 1) tables job (λ row owned step. after_restarted row owned step initiator checkpoint tables) more (λ row owned step. restarted-few (most + 1) tables row owned step initiator checkpoint more)
   next-few (Held job code writes lengths) deck follow =
       by-step (most + 1) tables job (λ row owned step. after_held row owned step code writes lengths.items tables) more (λ row owned step. commit-few (most + 1) tables row owned step writes lengths.items more)
-  next-few (Released job) deck follow = by-run (most + 1) tables job (λ row. with_run (record row { state = ReleasedRun }) tables) more (λ row. more)
   next-few (Ended job ending) deck follow = by-run (most + 1) tables job (λ row. after_ended row ending tables) more (λ row. ended-few (most + 1) tables row ending more)
-  next-few (Purged job) deck follow = by-run (most + 1) tables job (λ row. with_run (record row { state = PurgedRun }) tables) more (λ row. more)
+  next-few event deck follow = by-run (most + 1) tables (job_of event) _ more (λ row. more)
 
 -- ---- all events
 

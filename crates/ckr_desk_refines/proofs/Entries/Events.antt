@@ -6,15 +6,16 @@ use Rattle.std.proofs.lemmas.List.{map-append}
 use Rattle.arrayvec.specs.ArrayVec.{ArrayVec}
 use Rattle.ckr_base.specs.declared.code.Code.{Code}
 use Rattle.ckr_events.specs.declared.event.Event.{Event}
-use Rattle.ckr_events.specs.declared.event.Event.TheVariants.{Cancelled, Checkpointed, Denied, Ended, Held, Purged, Released, Restarted, Rewritten, Selected, Started, StepEnded, Submitted}
+use Rattle.ckr_events.specs.declared.event.Event.TheVariants.{Checkpointed, Ended, Held, Restarted, Rewritten, Selected, Started, StepEnded, Submitted}
 use Rattle.ckr_events.specs.declared.event.Ending.{Ending}
 use Rattle.ckr_events.specs.declared.event.Made.{Made}
+use Rattle.ckr_events.specs.Jobs.{job_of}
 use Rattle.ckr_jcl.specs.declared.deck.Job.{Job}
 use Rattle.ckr_library.specs.NameMaps.{Name, Named}
 use Rattle.ckr_meaning.specs.Allotments.{DdAllotment, opened_all}
 use Rattle.ckr_meaning.specs.EffectiveJob.{Effective, placed_in, stamp_of}
 use Rattle.ckr_meaning.specs.declared.place.Place.TheVariants.{Before, Within}
-use Rattle.ckr_points.specs.declared.run.RunState.TheVariants.{Held as HeldRun, Released as ReleasedRun, Denied as DeniedRun, Purged as PurgedRun, On}
+use Rattle.ckr_points.specs.declared.run.RunState.TheVariants.{Held as HeldRun, On}
 use Rattle.ckr_points.specs.Marks.{with_point}
 use Rattle.ckr_points.specs.Office.{Office, office_after}
 use Rattle.ckr_points.specs.Restart.{after_ended, after_event, after_restarted}
@@ -107,17 +108,14 @@ module _ (E : TableSet → Type 0) (stays : sets.Stays E) (tables : TablesModel)
   event-stays (Submitted job cards) deck on plain old = absurd (false≢true (sym old))
   event-stays (Selected job initiator zero step id) deck on plain old = selected-stays job initiator step id deck
   event-stays (Selected job initiator (suc before) step id) deck on plain old = absurd (false≢true (sym on))
-  event-stays (Denied job rule name) deck on plain old = row-same job (λ row. record row { state = DeniedRun }) (λ row mine. mine)
   event-stays (Started job step items) deck on plain old = started-stays job step items deck
   event-stays (Rewritten job taken writes lengths place image) deck on plain old = rewritten-stays job taken writes place lengths image deck
   event-stays (Checkpointed job id taken writes lengths place bytes) deck on plain old = absurd (false≢true (sym plain))
-  event-stays (Cancelled job) deck on plain old = row-same job (λ row. record row { in_effect = None }) (λ row mine. mine)
   event-stays (StepEnded job step rc writes lengths) deck on plain old = step_end-stays job step rc writes lengths deck
   event-stays (Restarted job initiator code checkpoint) deck on plain old = restarted-stays job initiator code checkpoint deck
   event-stays (Held job code writes lengths) deck on plain old = held-stays job writes code lengths deck
-  event-stays (Released job) deck on plain old = row-same job (λ row. record row { state = ReleasedRun }) (λ row mine. mine)
   event-stays (Ended job ending) deck on plain old = ended-stays job ending deck
-  event-stays (Purged job) deck on plain old = row-same job (λ row. record row { state = PurgedRun }) (λ row mine. mine)
+  event-stays event deck on plain old = row-same (job_of event) _ (λ row mine. mine)
 
   -- one by which a run continues another one changes that run's job
   pub event-each : (event : Event) (deck : Option Job) → takes_checkpoint event ≡ false → UnderEachName E (after_event event deck tables).sets

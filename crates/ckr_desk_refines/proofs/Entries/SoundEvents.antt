@@ -8,7 +8,7 @@ use Rattle.ckr_base.specs.declared.code.Code.{Code}
 use Rattle.ckr_base.proofs.Bools.{and-first, and-second}
 use Rattle.ckr_base.proofs.Options.{some-not-none}
 use Rattle.ckr_events.specs.declared.event.Event.{Event}
-use Rattle.ckr_events.specs.declared.event.Event.TheVariants.{Cancelled, Checkpointed, Denied, Ended, Held, Purged, Released, Restarted, Rewritten, Selected, Started, StepEnded, Submitted}
+use Rattle.ckr_events.specs.declared.event.Event.TheVariants.{Checkpointed, Ended, Held, Restarted, Rewritten, Selected, Started, StepEnded, Submitted}
 use Rattle.ckr_events.specs.declared.event.Ending.TheVariants.{Allocation, Coded, Completed}
 use Rattle.ckr_events.specs.Jobs.{job_of}
 use Rattle.ckr_jcl.specs.declared.deck.Job.{Job}
@@ -80,19 +80,16 @@ module _ (layout : Layout) (now : Office) (are : AreKept layout now) where
   reach-next (Selected job initiator zero step id) deck next = others-selected layout now job initiator step id deck kept next.may
   reach-next (Selected job initiator (suc before) step id) deck next =
       others-continued layout now kept job initiator before step id deck next.may (next-kept layout now are (Selected job initiator (suc before) step id) deck next).kept
-  reach-next (Denied job rule name) deck next = same-reach job _ (λ row. refl)
   reach-next (Started job step items) deck next = others-started layout now job step items deck kept next.may next.carried
   reach-next (Rewritten job taken writes lengths place image) deck next = others-rewritten layout now job taken writes place lengths image deck kept next.may
   reach-next (Checkpointed job id taken writes lengths place bytes) deck next = others-checkpointed layout now kept.events job taken writes place bytes id lengths deck next.may
-  reach-next (Cancelled job) deck next = same-reach job _ (λ row. refl)
   reach-next (StepEnded job step rc writes lengths) deck next = others-step-ended layout now job step rc writes lengths deck kept next.may next.carried
   reach-next (Restarted job initiator code checkpoint) deck next = reach-restarted job initiator code checkpoint deck next
   reach-next (Held job code writes lengths) deck next = reach-held job writes code lengths deck next.may
-  reach-next (Released job) deck next = same-reach job _ (λ row. refl)
   reach-next (Ended job Completed) deck next = others-completed layout now job deck kept next.may
   reach-next (Ended job (Coded code rule writes lengths)) deck next = others-coded layout now job rule writes code lengths deck kept next.may next.carried
   reach-next (Ended job (Allocation dd cause first second)) deck next = others-refused layout now job dd cause first second deck kept next.may
-  reach-next (Purged job) deck next = same-reach job _ (λ row. refl)
+  reach-next event deck next = same-reach (job_of event) _ (λ row. refl)
 
   -- ---- one more event
 

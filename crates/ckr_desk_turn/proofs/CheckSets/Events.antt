@@ -3,10 +3,11 @@ use Rattle.std.proofs.Common.{◌≡◌, ℕ, zero, suc, Bool, true, false, List
 use Rattle.std.specs.Option.{option_map_or}
 use Rattle.arrayvec.specs.ArrayVec.{ArrayVec}
 use Rattle.ckr_events.specs.declared.event.Event.{Event}
-use Rattle.ckr_events.specs.declared.event.Event.TheVariants.{Cancelled, Checkpointed, Denied, Ended, Held, Purged, Released, Restarted, Rewritten, Selected, Started, StepEnded, Submitted}
+use Rattle.ckr_events.specs.declared.event.Event.TheVariants.{Checkpointed, Ended, Held, Restarted, Rewritten, Selected, Started, StepEnded, Submitted}
 use Rattle.ckr_events.specs.declared.event.Ending.{Ending}
 use Rattle.ckr_events.specs.declared.event.Ending.TheVariants.{Allocation, Coded, Completed}
 use Rattle.ckr_events.specs.declared.event.Made.{Made}
+use Rattle.ckr_events.specs.Jobs.{job_of}
 use Rattle.ckr_jcl.specs.declared.deck.Job.{Job}
 use Rattle.ckr_library.specs.declared.sets.Kept.{Kept}
 use Rattle.ckr_library.proofs.Named.{each-with_changed}
@@ -16,13 +17,12 @@ use Rattle.ckr_meaning.specs.EffectiveJob.{OwnedStep, placed_in, stamp_of}
 use Rattle.ckr_meaning.specs.declared.place.Place.{Place}
 use Rattle.ckr_meaning.specs.declared.place.Place.TheVariants.{Before, Opened, Within}
 use Rattle.ckr_points_library.specs.Commit.{output_names}
-use Rattle.ckr_points.specs.declared.run.RunState.TheVariants.{Denied as DeniedRun, Purged as PurgedRun, Released as ReleasedRun}
 use Rattle.ckr_points.specs.Events.{IsNext}
 use Rattle.ckr_points.specs.Office.{Leg, Office, office_after}
 use Rattle.ckr_points.specs.Marks.{point_at, removed_all, with_point, has_passed, without_passed}
 use Rattle.ckr_points.specs.Restart.{Back, after_abnormal, after_continued, after_continued_at, after_ended, after_entry_continued, after_passed_ended, after_put_back, after_restarted, back_to_entry, back_to_start, by_run, by_step, continued_row, deferred_entry, deferred_start, effect_restarted, kept_at, place_of, point_restarted, row_on, step_in, syschk_name}
-use Rattle.ckr_points.specs.Rows.{EffectPoint, KeptEntry, RunRow, StartPoint, TablesModel, run_of, standing_of, step_of_run, table_ways, with_run}
-use Rattle.ckr_points.specs.Tables.{after_cancelled, after_checkpointed, after_commit, after_dispositions, after_held, after_rewritten, after_selected, after_step_ended, earlier_made, is_checkpoints, is_updates, name_with_role, own_made, row_rewritten, run_disposals, table_rewritten}
+use Rattle.ckr_points.specs.Rows.{EffectPoint, KeptEntry, RunRow, StartPoint, TablesModel, run_of, standing_of, step_of_run, table_ways}
+use Rattle.ckr_points.specs.Tables.{after_checkpointed, after_commit, after_dispositions, after_held, after_rewritten, after_selected, after_step_ended, earlier_made, is_checkpoints, is_updates, name_with_role, own_made, row_rewritten, run_disposals, table_rewritten}
 use Rattle.ckr_desk_turn.specs.DeckLimits.{HasCheckParts}
 use Rattle.ckr_points_invariant.specs.Invariant.{IsHolder, IsKept}
 use Rattle.ckr_points_invariant.proofs.PutBack.Sets.{removed_all-holds}
@@ -149,20 +149,17 @@ module _ (layout : Layout) (now : Office) (kept : IsKept layout now) (has : HasR
   have-next (Selected job initiator (suc before) step id) deck is next =
       by now.tables (λ (row : RunRow). by_run (suc before) now.tables (λ earlier. after_continued row earlier step initiator id now.tables)) (run_of now.tables job) each
       (λ row. by now.tables (λ (earlier : RunRow). after_continued row earlier step initiator id now.tables) (run_of now.tables (suc before)) each (λ earlier. continued-has row earlier step initiator id))
-  have-next (Denied job rule name) deck is next = by now.tables (λ (row : RunRow). with_run (record row { state = DeniedRun }) now.tables) (run_of now.tables job) each (λ row. each)
   have-next (Started job step items) deck is next = started-has job step items deck next
   have-next (Rewritten job taken writes lengths place image) deck is next =
       by-step now.tables job (λ row owned step. after_rewritten row owned step writes lengths.items now.tables) each (λ row owned step. rewritten-has row owned step writes lengths.items)
   have-next (Checkpointed job id taken writes lengths place bytes) deck is next =
       let entry : Kept = record { id = id; run = job; place = place; bytes = bytes } in
       by-step now.tables job (λ row owned step. after_checkpointed row owned step entry taken writes lengths.items now.tables) each (λ row owned step. taken-has row owned step entry taken writes lengths.items)
-  have-next (Cancelled job) deck is next = by now.tables (λ (row : RunRow). after_cancelled row now.tables) (run_of now.tables job) each (λ row. each)
   have-next (StepEnded job step rc writes lengths) deck is next =
       by-step now.tables job (λ row owned step. after_step_ended row owned step rc writes lengths.items now.tables) each (λ row owned step. step_ended-has row owned step rc writes lengths.items)
   have-next (Restarted job initiator code checkpoint) deck is next =
       by-step now.tables job (λ row owned step. after_restarted row owned step initiator checkpoint now.tables) each (λ row owned step. restarted-has row owned step initiator checkpoint)
   have-next (Held job code writes lengths) deck is next =
       by-step now.tables job (λ row owned step. after_held row owned step code writes lengths.items now.tables) each (λ row owned step. committed-have (output_names row.job.root owned) lengths.items now.tables.sets each)
-  have-next (Released job) deck is next = by now.tables (λ (row : RunRow). with_run (record row { state = ReleasedRun }) now.tables) (run_of now.tables job) each (λ row. each)
   have-next (Ended job ending) deck is next = by now.tables (λ (row : RunRow). after_ended row ending now.tables) (run_of now.tables job) each (λ row. ended-has now.tables row ending each)
-  have-next (Purged job) deck is next = by now.tables (λ (row : RunRow). with_run (record row { state = PurgedRun }) now.tables) (run_of now.tables job) each (λ row. each)
+  have-next event deck is next = by now.tables _ (run_of now.tables (job_of event)) each (λ row. each)

@@ -13,8 +13,9 @@ use Rattle.ckr_base.proofs.Sequences.{each-append}
 use Rattle.ckr_base.specs.declared.code.Code.{Code}
 use Rattle.ckr_events.specs.declared.event.Ending.{Ending}
 use Rattle.ckr_events.specs.declared.event.Event.{Event}
-use Rattle.ckr_events.specs.declared.event.Event.TheVariants.{Cancelled, Checkpointed, Denied, Ended, Held, Purged, Released, Restarted, Rewritten, Selected, Started, StepEnded, Submitted}
+use Rattle.ckr_events.specs.declared.event.Event.TheVariants.{Checkpointed, Ended, Held, Restarted, Rewritten, Selected, Started, StepEnded, Submitted}
 use Rattle.ckr_events.specs.declared.event.Made.{Made}
+use Rattle.ckr_events.specs.Jobs.{job_of}
 use Rattle.ckr_jcl.specs.declared.deck.Job.{Job}
 use Rattle.ckr_library.specs.declared.sets.Kept.{Kept}
 use Rattle.ckr_library.specs.NameMaps.{Name, Named}
@@ -23,7 +24,7 @@ use Rattle.ckr_meaning.specs.Allotments.{DdAllotment, opened_all}
 use Rattle.ckr_meaning.specs.EffectiveJob.{OwnedStep, placed_in, stamp_of}
 use Rattle.ckr_meaning.specs.declared.place.Place.TheVariants.{Within}
 use Rattle.ckr_points_library.specs.Commit.{output_names}
-use Rattle.ckr_points.specs.declared.run.RunState.TheVariants.{Held as HeldRun, Released as ReleasedRun, Denied as DeniedRun, Purged as PurgedRun, On}
+use Rattle.ckr_points.specs.declared.run.RunState.TheVariants.{Held as HeldRun, On}
 use Rattle.ckr_points.specs.Events.{AreSound, AreSoundFrom, IsNext}
 use Rattle.ckr_points.specs.Follows.{is_checkpoint, is_empty, is_in_state, is_running, lengths_follow, of_step}
 use Rattle.ckr_points.specs.Marks.{with_point}
@@ -273,20 +274,12 @@ module _ (layout : Layout) (now : Office) (events : List Decked) (kept : IsAgree
   counted-next (Submitted job cards) deck on next = submitted job cards deck next
   counted-next (Selected job initiator zero step id) deck on next = selected job initiator step id deck next
   counted-next (Selected job initiator (suc before) step id) deck on next = absurd (false≢true (sym on))
-  counted-next (Denied job rule name) deck on next = let event : Decked = (Denied job rule name, deck) in record {
-    points = row-same (events ++ event ∷ []) now.tables (more event (λ run. refl)) job (λ row. record row { state = DeniedRun }) (λ row mine. mine);
-    unled = unled-more event (λ run. refl);
-  }
   counted-next (Started job step items) deck on next = started-next job step items deck
   counted-next (Rewritten job taken writes lengths place image) deck on next = let event : Decked = (Rewritten job taken writes lengths place image, deck) in record {
     points = rewrote (events ++ event ∷ []) now.tables (more event (λ run. refl)) job writes lengths.items;
     unled = unled-more event (λ run. refl);
   }
   counted-next (Checkpointed job id taken writes lengths place bytes) deck on next = checkpointed job taken writes place bytes id lengths deck next
-  counted-next (Cancelled job) deck on next = let event : Decked = (Cancelled job, deck) in record {
-    points = row-same (events ++ event ∷ []) now.tables (more event (λ run. refl)) job (λ row. record row { in_effect = None }) (λ row mine. mine);
-    unled = unled-more event (λ run. refl);
-  }
   counted-next (StepEnded job step rc writes lengths) deck on next = let event : Decked = (StepEnded job step rc writes lengths, deck) in record {
     points = step_ended (events ++ event ∷ []) now.tables (more event (λ run. refl)) job rc writes lengths.items;
     unled = unled-more event (λ run. refl);
@@ -296,17 +289,13 @@ module _ (layout : Layout) (now : Office) (events : List Decked) (kept : IsAgree
     points = held (events ++ event ∷ []) now.tables (more event (λ run. refl)) job writes code lengths.items;
     unled = unled-more event (λ run. refl);
   }
-  counted-next (Released job) deck on next = let event : Decked = (Released job, deck) in record {
-    points = row-same (events ++ event ∷ []) now.tables (more event (λ run. refl)) job (λ row. record row { state = ReleasedRun }) (λ row mine. mine);
-    unled = unled-more event (λ run. refl);
-  }
   counted-next (Ended job ending) deck on next = let event : Decked = (Ended job ending, deck) in record {
     points = ended (events ++ event ∷ []) now.tables (more event (λ run. refl)) job ending;
     unled = unled-more event (λ run. refl);
   }
-  counted-next (Purged job) deck on next = let event : Decked = (Purged job, deck) in record {
-    points = row-same (events ++ event ∷ []) now.tables (more event (λ run. refl)) job (λ row. record row { state = PurgedRun }) (λ row mine. mine);
-    unled = unled-more event (λ run. refl);
+  counted-next event deck on next = let one : Decked = (event, deck) in record {
+    points = row-same (events ++ one ∷ []) now.tables (more one (λ run. refl)) (job_of event) _ (λ row mine. mine);
+    unled = unled-more one (λ run. refl);
   }
 
 -- ---- all of them, one after the other

@@ -7,7 +7,8 @@ use Rattle.ckr_base.proofs.Sequences.{each-append, each-get}
 use Rattle.ckr_events.specs.declared.event.Ending.{Ending}
 use Rattle.ckr_events.specs.declared.event.Ending.TheVariants.{Allocation, Coded, Completed}
 use Rattle.ckr_events.specs.declared.event.Event.{Event}
-use Rattle.ckr_events.specs.declared.event.Event.TheVariants.{Cancelled, Checkpointed, Denied, Ended, Held, Purged, Released, Restarted, Rewritten, Selected, Started, StepEnded, Submitted}
+use Rattle.ckr_events.specs.declared.event.Event.TheVariants.{Checkpointed, Ended, Held, Restarted, Rewritten, Selected, Started, StepEnded, Submitted}
+use Rattle.ckr_events.specs.Jobs.{job_of}
 use Rattle.ckr_jcl.specs.declared.deck.Job.{Job}
 use Rattle.ckr_library.specs.NameMaps.{Name}
 use Rattle.ckr_meaning.specs.EffectiveJob.{OwnedStep}
@@ -18,7 +19,6 @@ use Rattle.ckr_points.specs.Payload.{is_orderly}
 use Rattle.ckr_points.specs.Restart.{Back, after_abnormal, after_chosen, after_continued, after_continued_at, after_ended, after_event, after_passed_ended, after_put_back, after_restarted, after_taken_over, back_to_entry, back_to_start, by_step, continued_row, deferred_entry, deferred_start, effect_restarted, kept_at, place_of, point_restarted, row_on, syschk_name}
 use Rattle.ckr_points.specs.Rows.{EffectPoint, KeptEntry, RunRow, StartPoint, TablesModel, run_of, step_of_run, with_row, with_run}
 use Rattle.ckr_points.specs.Tables.{after_checkpointed, after_commit, after_dispositions, after_held, after_rewritten, after_started, after_step_ended, fresh_effect}
-use Rattle.ckr_points.specs.declared.run.RunState.TheVariants.{Denied as DeniedRun, Purged as PurgedRun, Released as ReleasedRun}
 use Rattle.ckr_points_invariant.specs.Invariant.{AreOrderly, step_now}
 use Rattle.ckr_points_invariant.proofs.Points.Rows.{all_set}
 
@@ -110,20 +110,17 @@ orderly-next tables (Submitted job cards) None has orderly = orderly
 orderly-next tables (Submitted job cards) (Some deck) has orderly = each-append IsOrderlyRow tables.runs _ orderly (has, tt)
 orderly-next tables (Selected job initiator earlier step id) deck has orderly =
     by-run tables orderly job (λ row. after_chosen row initiator earlier step id tables) (λ row mine. chosen-orderly tables orderly row initiator earlier step id mine)
-orderly-next tables (Denied job rule name) deck has orderly = by-run tables orderly job _ (λ row mine. with-orderly (record row { state = DeniedRun }) tables mine orderly)
 orderly-next tables (Started job step items) deck has orderly =
     by-run tables orderly job _ (λ row mine. by tables orderly (λ owned. after_started row owned step items.items tables) (step_of_run row step) (λ owned. with-orderly _ tables mine orderly))
 orderly-next tables (Rewritten job taken writes lengths place image) deck has orderly =
     by-step tables orderly job (λ row owned step. after_rewritten row owned step writes lengths.items tables) (λ row owned step mine. with-orderly _ tables mine orderly)
 orderly-next tables (Checkpointed job id taken writes lengths place bytes) deck has orderly =
     by-step tables orderly job (λ row owned step. after_checkpointed row owned step (record { id = id; run = job; place = place; bytes = bytes }) taken writes lengths.items tables) (λ row owned step mine. with-orderly _ tables mine orderly)
-orderly-next tables (Cancelled job) deck has orderly = by-run tables orderly job _ (λ row mine. with-orderly (record row { in_effect = None }) tables mine orderly)
 orderly-next tables (StepEnded job step rc writes lengths) deck has orderly =
     by-step tables orderly job (λ row owned step. after_step_ended row owned step rc writes lengths.items tables) (λ row owned step mine. with-orderly _ (after_commit row owned step writes lengths.items tables) mine (with-orderly _ tables mine orderly))
 orderly-next tables (Restarted job initiator code checkpoint) deck has orderly =
     by-step tables orderly job (λ row owned step. after_restarted row owned step initiator checkpoint tables) (λ row owned step mine. restarted-orderly tables orderly row owned step initiator checkpoint mine)
 orderly-next tables (Held job code writes lengths) deck has orderly =
     by-step tables orderly job (λ row owned step. after_held row owned step code writes lengths.items tables) (λ row owned step mine. with-orderly _ tables mine orderly)
-orderly-next tables (Released job) deck has orderly = by-run tables orderly job _ (λ row mine. with-orderly (record row { state = ReleasedRun }) tables mine orderly)
 orderly-next tables (Ended job ending) deck has orderly = by-run tables orderly job (λ row. after_ended row ending tables) (λ row mine. ended-orderly row ending tables mine orderly)
-orderly-next tables (Purged job) deck has orderly = by-run tables orderly job _ (λ row mine. with-orderly (record row { state = PurgedRun }) tables mine orderly)
+orderly-next tables event deck has orderly = by-run tables orderly (job_of event) _ (λ row mine. with-orderly _ tables mine orderly)
