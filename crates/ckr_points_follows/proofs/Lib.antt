@@ -5,4 +5,3 @@ pub mod RewriteCounts
 pub mod Outputs
 pub mod Rewrites
 pub mod Selects
-pub mod Starts

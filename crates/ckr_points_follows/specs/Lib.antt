@@ -1,10 +1,7 @@
 pub mod Checkpoint
-pub mod Clearance
 pub mod RewriteCounts
-pub mod Stretches
 pub mod DeckConflicts
 pub mod Lengths
-pub mod Placements
 pub mod Rewrite
 pub mod Start
 pub mod Model

@@ -2,13 +2,10 @@
 #![tactic(auto)]
 
 mod checkpoint;
-mod clearance;
 mod deck_conflicts;
 mod event;
 mod hold;
-mod items;
 mod lengths;
-mod placements;
 mod release;
 mod restart;
 mod rewrite;
@@ -18,7 +15,6 @@ mod select;
 mod start;
 mod step_end;
 mod steps;
-mod stretches;
 mod submit;
 
 pub use checkpoint::{cancelled_follows, checkpointed_follows};

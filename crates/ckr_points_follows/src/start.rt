@@ -1,23 +1,19 @@
 //! Whether the start of a step follows.
-ghost use Rattle.std.specs.Prelude.{◌≡◌, ◌≤◌, ◌&&◌, [], length, map, nat_eq};
-ghost use Rattle.std.specs.List.{list_all};
-ghost use Rattle.std.specs.Cmp.Lexicographic.{pointwise};
-ghost use Rattle.ckr_events.specs.declared.event.Made.{Made as MadeItem};
-ghost use Rattle.ckr_meaning.specs.EffectiveJob.{flaws_in};
-ghost use Rattle.ckr_points.specs.Follows.{is_empty, is_part_whole, made_dds, may_start, of_run, started_follows};
-ghost use Rattle.ckr_points_follows.specs.Placements.{are_clear_beside, placed_list};
-ghost use Rattle.ckr_points_follows.specs.Start.{starts};
+ghost use Rattle.std.specs.Prelude.{◌≡◌, ◌≤◌, true, length};
+ghost use Rattle.ckr_meaning.specs.EffectiveJob.{names_of};
+ghost use Rattle.ckr_points.specs.Follows.{may_start, of_run, started_follows};
 ghost use Rattle.ckr_points_deferred.specs.Runs.{row_now, IsRunNow};
+ghost use Rattle.ckr_points_follows.specs.Start.{starts, starts_as};
+ghost use Rattle.ckr_points_tables.specs.RunJobs.{own_of};
+ghost use Rattle.ckr_uses.specs.Uses.{are_distinct};
 
-use crate::clearance::are_clear_beside;
-use crate::items::{are_named, are_whole};
-use crate::placements::{PlacedNow, has_no_flaws, place_step};
 use crate::runs::{is_on, place_of};
 use crate::steps::step_of;
 use ckr_events::Made;
 use ckr_meaning::Place;
+use ckr_points_clearance::makes_items;
 use ckr_points_deferred::{RunNow, run_now};
-use ckr_points_tables::Tables;
+use ckr_points_tables::{OwnStep, Tables};
 use ckr_volumes::Layout;
 
 /// Whether a run at this place may start a step: it is before the step, or the step was opened for it by a restart.
@@ -30,23 +26,23 @@ fn may_start(step: u8, place: Place) -> bool
     }
 }
 
-/// Whether a run at this place starts a step of these DDs with these items.
+/// Whether a run starts a step of its job with these items, as far as its place and the step tell.
 fn starts_with(
     tables: &Tables,
     layout: &Layout,
+    run: &RunNow<'_>,
+    own: &OwnStep<'_>,
     step: u8,
-    place: Place,
-    placed: &[Option<PlacedNow<'_>>],
     items: &[Made],
 ) -> bool
-    requires { length items.now ≤ 80 }
-    ensures { let all = placed_list placed.now in result ≡ (may_start step place && is_empty (flaws_in all) && pointwise nat_eq (made_dds all) (map (λ (item : MadeItem). item.dd) items.now) && list_all (is_part_whole all) items.now && are_clear_beside layout.now items.now tables.now.desk.sets [] all) }
+    requires root { run.now.table.now.job.root ≤ 9999999 }
+    requires owner { own.now.owner ≤ 9999999 }
+    requires few { length own.now.step.now.dds ≤ 16 }
+    requires distinct { are_distinct (names_of run.now.table.now.job.root (own_of own.now)) ≡ true }
+    requires items { length items.now ≤ 80 }
+    ensures { result ≡ starts_as layout.now tables.now.desk step items.now (row_now run.now) (own_of own.now) }
 {
-    may_start(step, place)
-        && has_no_flaws(placed)
-        && are_named(placed, items)
-        && are_whole(placed, items)
-        && are_clear_beside(tables, layout, items, placed)
+    may_start(step, place_of(run)) && makes_items(tables, layout, run.table, own, items)
 }
 
 /// Whether a step of a run starts with these items.
@@ -56,17 +52,7 @@ fn step_starts(tables: &Tables, layout: &Layout, run: &RunNow<'_>, step: u8, ite
     ensures { result ≡ starts layout.now tables.now.desk step items.now (row_now run.now) }
 {
     match step_of(run, step) {
-        Some(own) => {
-            let placed = place_step(tables, run, &own);
-            starts_with(
-                tables,
-                layout,
-                step,
-                place_of(run),
-                placed.as_slice(),
-                items,
-            )
-        }
+        Some(own) => starts_with(tables, layout, run, &own, step, items),
         None => false,
     }
 }

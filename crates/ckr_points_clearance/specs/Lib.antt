@@ -1,0 +1,4 @@
+pub mod Clearance
+pub mod Stretches
+pub mod Placements
+pub mod Start

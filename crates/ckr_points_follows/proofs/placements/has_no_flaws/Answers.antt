@@ -1,6 +1,0 @@
-use Rattle.std.proofs.Common.{◌∙◌}
-use Rattle.ckr_points_follows.proofs.Starts.Placements.{no-flaws}
-use Rattle.ckr_points_follows.proofs.placements.has_no_flaws.Goals as goal
-
-pub returns : goal.returns
-returns c = c.are_unrefused.ensures ∙ no-flaws c.args.placed.now

@@ -1,6 +1,0 @@
-use Rattle.std.proofs.Common.{◌≡◌, ◌++◌, drop}
-use Rattle.ckr_points_follows.specs.Stretches.{gathered}
-use Rattle.ckr_points_follows.proofs.stretches.gathered_few.Given as goal
-
-abbrev pub invariant-loop-item : goal.invariant-loop-item
-invariant-loop-item l = l.stretches.items ++ gathered l.number (drop l.item-index l.items) ≡ gathered l.number l.items
