@@ -7,7 +7,7 @@ use Rattle.std.specs.Str.Lines.{lines}
 use Rattle.std.specs.Io.KnownBytes.{Consumes, IsAtEnd}
 use Rattle.ckr_base.proofs.Numbers.{nat_lt-beyond}
 use Rattle.ckr_outside.specs.Faults.{Rose}
-use Rattle.ckr_desk.specs.Model.Layout.{Layout}
+use Rattle.ckr_session.specs.Model.Layout.{Layout}
 use Rattle.ckr_desk_format.specs.declared.command.FormatOutcome.{FormatOutcome}
 use Rattle.ckr_desk_format.specs.declared.command.FormatOutcome.TheVariants as Outcomes
 use Rattle.ckr_desk_format.specs.Formats.{CausedBy, Ends, FormatsBy, IsFormatted}

@@ -4,14 +4,14 @@ use Rattle.ckr_base.proofs.Bools.{true-not-false}
 use Rattle.ckr_outside.specs.Faults.{Rose}
 use Rattle.ckr_desk_format.specs.declared.command.FormatOutcome.{FormatOutcome}
 use Rattle.ckr_desk_format.specs.declared.command.FormatOutcome.TheVariants as Outcomes
-use Rattle.ckr_service.specs.declared.counts.Counts.{Counts}
-use Rattle.ckr_service.specs.declared.stop.Stop.{Stop}
-use Rattle.ckr_service.specs.declared.stop.Stop.TheVariants as Stops
+use Rattle.ckr_session.specs.declared.counts.Counts.{Counts}
+use Rattle.ckr_session.specs.declared.stop.Stop.{Stop}
+use Rattle.ckr_session.specs.declared.stop.Stop.TheVariants as Stops
 use Rattle.ckr_service.specs.CallEnds.{formatting_status, is_whole, serving_status}
 use Rattle.ckr_service.specs.Completeness.{EndsOrLacks, served_status}
 use Rattle.ckr_service.specs.MadeDisk.{FormatsSo}
 use Rattle.ckr_service.specs.Makes.{TellsCounts}
-use Rattle.ckr_service.specs.Staff.{StaffedDesk}
+use Rattle.ckr_session.specs.Staff.{StaffedDesk}
 use Rattle.ckr_service.specs.Stream.{has_refusal}
 
 -- a count that rose rose from a lower one too

@@ -6,23 +6,23 @@ use Rattle.std.proofs.lemmas.Bool.{false≢true}
 use Rattle.std.proofs.lemmas.List.{length-append}
 use Rattle.ckr_console.specs.Answering.{Answering}
 use Rattle.ckr_outside.specs.Disk.{EachSince}
-use Rattle.ckr_desk.specs.Model.Layout.{Layout}
-use Rattle.ckr_desk.specs.Soundness.{AllSound, Sound, desk_opening}
+use Rattle.ckr_session.specs.Model.Layout.{Layout}
+use Rattle.ckr_session.specs.Model.Soundness.{AllSound, Sound, desk_opening}
 use Rattle.ckr_desk_format.specs.declared.command.FormatOutcome.{FormatOutcome}
 use Rattle.ckr_desk_format.specs.declared.command.FormatOutcome.TheVariants as Outcomes
-use Rattle.ckr_desk.specs.State.{RoomyDesk}
-use Rattle.ckr_desk.specs.declared.error.OpenError.{OpenError}
-use Rattle.ckr_desk.specs.declared.error.OpenError.TheVariants as OpenErrors
-use Rattle.ckr_service.specs.declared.counts.Counts.{Counts}
-use Rattle.ckr_service.specs.declared.stop.Stop.{Stop}
-use Rattle.ckr_service.specs.declared.stop.Stop.TheVariants as Stops
+use Rattle.ckr_session.specs.Model.State.{RoomyDesk}
+use Rattle.ckr_session.specs.Model.OpenError.{OpenError}
+use Rattle.ckr_session.specs.Model.OpenError.TheVariants as OpenErrors
+use Rattle.ckr_session.specs.declared.counts.Counts.{Counts}
+use Rattle.ckr_session.specs.declared.stop.Stop.{Stop}
+use Rattle.ckr_session.specs.declared.stop.Stop.TheVariants as Stops
 use Rattle.ckr_service.specs.CallEnds.{EndsSo, Ended, NotOpened, RunEnd, formatting_status, is_whole, opening_status, serving_status, status_of}
-use Rattle.ckr_service.specs.Counts.{counts_behind}
+use Rattle.ckr_session.specs.Counts.{counts_behind}
 use Rattle.ckr_service.specs.Feeds.{IsCounted, faults_of}
 use Rattle.ckr_service.specs.MadeDisk.{FormatsSo, made_layout}
 use Rattle.ckr_service.specs.MadeStream.{made_size, made_stream}
 use Rattle.ckr_service.specs.Makes.{FailsSo, HasMade, HasRunOver, MadeEnd, MadeSo, RunsOver, Served, TellsCounts, TellsRun, TooSmall, Unformatted}
-use Rattle.ckr_service.specs.Staff.{StaffedDesk, staffed_with}
+use Rattle.ckr_session.specs.Staff.{StaffedDesk, staffed_with}
 use Rattle.ckr_service.specs.Stream.{requests_of}
 use Rattle.ckr_service.proofs.Calls.Ends.{Keeps-refl, all_sound}
 use Rattle.ckr_service.proofs.MadeDisks.{all_read, not_rose}

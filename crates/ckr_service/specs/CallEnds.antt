@@ -3,18 +3,18 @@ use Rattle.std.specs.Prelude.{◌≡◌, ◌≤◌, ℕ, ◌==◌, ◌||◌, Boo
 use Rattle.std.specs.Io.KnownBytes.{Consumes, Keeps}
 use Rattle.ckr_console.specs.Answering.{Answering}
 use Rattle.ckr_outside.specs.Faults.{Rose}
-use Rattle.ckr_desk.specs.Model.Layout.{Layout}
+use Rattle.ckr_session.specs.Model.Layout.{Layout}
 use Rattle.ckr_desk_format.specs.declared.command.FormatOutcome.{FormatOutcome}
 use Rattle.ckr_desk_format.specs.declared.command.FormatOutcome.TheVariants as Outcomes
 use Rattle.ckr_desk_format.specs.Formats.{Ends, CausedBy}
-use Rattle.ckr_desk.specs.declared.error.OpenError.{OpenError}
-use Rattle.ckr_desk.specs.declared.error.OpenError.TheVariants as OpenErrors
-use Rattle.ckr_desk.specs.Replay.{OpenCause}
-use Rattle.ckr_desk.specs.State.{RoomyDesk}
-use Rattle.ckr_service.specs.declared.stop.Stop.{Stop}
-use Rattle.ckr_service.specs.declared.stop.Stop.TheVariants as Stops
+use Rattle.ckr_session.specs.Model.OpenError.{OpenError}
+use Rattle.ckr_session.specs.Model.OpenError.TheVariants as OpenErrors
+use Rattle.ckr_session.specs.Model.Replay.{OpenCause}
+use Rattle.ckr_session.specs.Model.State.{RoomyDesk}
+use Rattle.ckr_session.specs.declared.stop.Stop.{Stop}
+use Rattle.ckr_session.specs.declared.stop.Stop.TheVariants as Stops
 use Rattle.ckr_service.specs.Feeds.{Faults, Serving}
-use Rattle.ckr_service.specs.Staff.{staffed_with}
+use Rattle.ckr_session.specs.Staff.{staffed_with}
 
 -- ---- a stream
 

@@ -3,16 +3,16 @@ use Rattle.std.specs.Prelude.{◌≡◌, ◌≤◌, ◌⊎◌, ℕ, true, List, 
 use Rattle.std.specs.Str.Lines.{lines}
 use Rattle.ckr_console.specs.Answering.{Answering}
 use Rattle.ckr_outside.specs.Faults.{Rose}
-use Rattle.ckr_desk.specs.declared.error.OpenError.{OpenError}
-use Rattle.ckr_desk.specs.Soundness.{fresh_desk}
-use Rattle.ckr_desk.specs.State.{RoomyDesk}
+use Rattle.ckr_session.specs.Model.OpenError.{OpenError}
+use Rattle.ckr_session.specs.Model.Soundness.{fresh_desk}
+use Rattle.ckr_session.specs.Model.State.{RoomyDesk}
 use Rattle.ckr_desk_format.specs.Installation.{installation_of}
-use Rattle.ckr_service.specs.Calls.{all_fit}
+use Rattle.ckr_session.specs.Calls.{all_fit}
 use Rattle.ckr_service.specs.CallEnds.{serving_status}
 use Rattle.ckr_service.specs.Feeds.{Faults}
 use Rattle.ckr_service.specs.MadeDisk.{made_layout}
 use Rattle.ckr_service.specs.MadeStream.{made_size, made_stream}
-use Rattle.ckr_service.specs.Staff.{StaffedDesk, staffed_with}
+use Rattle.ckr_session.specs.Staff.{StaffedDesk, staffed_with}
 use Rattle.ckr_service.specs.Stream.{has_refusal, requests_of}
 
 -- neither the source, the sink nor the disk failed meanwhile

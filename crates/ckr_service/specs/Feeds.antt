@@ -2,18 +2,18 @@
 use Rattle.std.specs.Prelude.{◌≡◌, ℕ, ◌≤◌, Bool, true, List, [], ◌++◌, length, take, Option, Result, Ok, Err, unwrap_or}
 use Rattle.std.specs.Io.KnownBytes.{Appends, Consumes, IsAtEnd}
 use Rattle.ckr_outside.specs.Faults.{Rose}
-use Rattle.ckr_service.specs.declared.stop.Stop.{Stop}
-use Rattle.ckr_service.specs.declared.stop.Stop.TheVariants as Stops
+use Rattle.ckr_session.specs.declared.stop.Stop.{Stop}
+use Rattle.ckr_session.specs.declared.stop.Stop.TheVariants as Stops
 use Rattle.ckr_service.specs.declared.flow.Flow.{Flow}
-use Rattle.ckr_service.specs.declared.counts.Counts.{Counts}
-use Rattle.ckr_service.specs.Calls.{after_all, all_fit, calls}
-use Rattle.ckr_service.specs.Counts.{counts_behind}
-use Rattle.ckr_service.specs.Tallies.{with_answers}
-use Rattle.ckr_service.specs.Events.{events_told}
-use Rattle.ckr_service.specs.Stops.{Comes}
-use Rattle.ckr_service.specs.Service.{View, StopsWithin, Caused}
+use Rattle.ckr_session.specs.declared.counts.Counts.{Counts}
+use Rattle.ckr_session.specs.Calls.{after_all, all_fit, calls}
+use Rattle.ckr_session.specs.Counts.{counts_behind}
+use Rattle.ckr_session.specs.Tallies.{with_answers}
+use Rattle.ckr_session.specs.Events.{events_told}
+use Rattle.ckr_session.specs.Stops.{Comes}
+use Rattle.ckr_session.specs.Service.{View, StopsWithin, Caused}
 use Rattle.ckr_service.specs.Flows.{StreamProgress}
-use Rattle.ckr_service.specs.Staff.{StaffedDesk}
+use Rattle.ckr_session.specs.Staff.{StaffedDesk}
 use Rattle.ckr_service.specs.Stream.{requests_of, text_of, has_refusal, ended_requests, ended_text}
 
 -- these are all of the text for the bytes of a stream, and whether a line or a deck of it is refused

@@ -3,14 +3,14 @@ use Rattle.std.specs.Prelude.{◌≡◌, ℕ, Bool, true, false, ◌==◌, if◌
 use Rattle.std.specs.List.{slice_split}
 use Rattle.std.specs.Str.Lines.{strip_carriage_return}
 use Rattle.std.specs.Io.KnownBytes.{Appends}
-use Rattle.ckr_cards.specs.Session.{Handed, first_session, handed_by, session_behind, session_behind_all, handed_with, handed_within}
+use Rattle.ckr_session.specs.Model.Session.{Handed, first_session, handed_by, session_behind, session_behind_all, handed_with, handed_within}
 use Rattle.ckr_service.specs.declared.flow.Flow.{Flow}
-use Rattle.ckr_service.specs.declared.stop.Stop.{Stop}
-use Rattle.ckr_service.specs.Calls.{after_all, all_fit, calls}
-use Rattle.ckr_service.specs.Events.{events_told}
-use Rattle.ckr_service.specs.Service.{View, Serves, StopsWithin, seen}
-use Rattle.ckr_service.specs.Sessions.{standing_of, HasFewCards}
-use Rattle.ckr_service.specs.Tallies.{no_tally, with_answers}
+use Rattle.ckr_session.specs.declared.stop.Stop.{Stop}
+use Rattle.ckr_session.specs.Calls.{after_all, all_fit, calls}
+use Rattle.ckr_session.specs.Events.{events_told}
+use Rattle.ckr_session.specs.Service.{View, Serves, StopsWithin, seen}
+use Rattle.ckr_session.specs.Sessions.{standing_of, HasFewCards}
+use Rattle.ckr_session.specs.Tallies.{no_tally, with_answers}
 use Rattle.ckr_service.specs.Stream.{is_line_end, requests_of, text_of, has_refusal}
 
 -- the lines of bytes that no line's end stands in

@@ -1,16 +1,3 @@
-pub mod Staff
-pub mod Orders
-pub mod Calls
-pub mod Events
-pub mod Tallies
-pub mod Listings
-pub mod Texts
-pub mod Lines
-pub mod Service
-pub mod Turns
-pub mod Stops
-pub mod Counts
-pub mod Sessions
 pub mod Stream
 pub mod Flows
 pub mod Feeds

@@ -1,7 +1,7 @@
 -- The disk that `make` formats.
 use Rattle.std.specs.Prelude.{◌≡◌, ℕ, List, [], ◌∷◌, codes}
 use Rattle.ckr_outside.specs.Faults.{Rose}
-use Rattle.ckr_desk.specs.Model.Layout.{Layout}
+use Rattle.ckr_session.specs.Model.Layout.{Layout}
 use Rattle.ckr_desk_format.specs.declared.command.FormatOutcome.{FormatOutcome}
 use Rattle.ckr_desk_format.specs.declared.command.FormatOutcome.TheVariants.{Formatted, DiskFailed, NoMemory}
 use Rattle.ckr_desk_format.specs.Formats.{FormatsBy, IsFormatted}

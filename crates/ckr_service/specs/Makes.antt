@@ -5,23 +5,23 @@ use Rattle.ckr_console.specs.Answering.{Answering}
 use Rattle.ckr_outside.specs.Disk.{EachSince}
 use Rattle.ckr_outside.specs.Faults.{Rose}
 use Rattle.ckr_outside.specs.Front.{AppendsFront}
-use Rattle.ckr_desk.specs.FirstSync.{FromSync, IsLeft}
-use Rattle.ckr_desk.specs.Model.OpenImages.{event_records}
-use Rattle.ckr_desk.specs.Soundness.{AllSound, HasKept, Sound, desk_opening}
-use Rattle.ckr_desk.specs.State.{RoomyDesk}
+use Rattle.ckr_session.specs.Model.FirstSync.{FromSync, IsLeft}
+use Rattle.ckr_session.specs.Model.OpenImages.{event_records}
+use Rattle.ckr_session.specs.Model.Soundness.{AllSound, HasKept, Sound, desk_opening}
+use Rattle.ckr_session.specs.Model.State.{RoomyDesk}
 use Rattle.ckr_desk_format.specs.declared.command.FormatOutcome.{FormatOutcome}
 use Rattle.ckr_desk_format.specs.declared.command.FormatOutcome.TheVariants.{DiskFailed, NoMemory}
 use Rattle.ckr_desk_format.specs.Formats.{IsFormatted}
-use Rattle.ckr_service.specs.declared.counts.Counts.{Counts}
-use Rattle.ckr_service.specs.declared.stop.Stop.{Stop}
-use Rattle.ckr_service.specs.declared.stop.Stop.TheVariants as Stops
+use Rattle.ckr_session.specs.declared.counts.Counts.{Counts}
+use Rattle.ckr_session.specs.declared.stop.Stop.{Stop}
+use Rattle.ckr_session.specs.declared.stop.Stop.TheVariants as Stops
 use Rattle.ckr_service.specs.CallEnds.{HasRun, RunEnd, NotOpened, Ended, formatting_status, serving_status, status_of}
-use Rattle.ckr_service.specs.Counts.{counts_behind, made_text}
+use Rattle.ckr_session.specs.Counts.{counts_behind, made_text}
 use Rattle.ckr_service.specs.Feeds.{faults_of}
 use Rattle.ckr_service.specs.MadeDisk.{FormatsMade, made_layout}
 use Rattle.ckr_service.specs.MadeStream.{made_size, made_stream}
-use Rattle.ckr_service.specs.Staff.{staffed_with}
-use Rattle.ckr_service.specs.Stops.{HasEverywhere}
+use Rattle.ckr_session.specs.Staff.{staffed_with}
+use Rattle.ckr_session.specs.Stops.{HasEverywhere}
 use Rattle.ckr_service.specs.Stream.{requests_of}
 
 -- ---- the line

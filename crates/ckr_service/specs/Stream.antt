@@ -2,11 +2,11 @@
 use Rattle.std.specs.Prelude.{ℕ, Bool, ◌==◌, List, [], ◌∷◌}
 use Rattle.std.specs.List.{slice_split, list_any}
 use Rattle.std.specs.Str.Lines.{strip_carriage_return}
-use Rattle.ckr_cards.specs.Cut.{items_of}
-use Rattle.ckr_cards.specs.Session.{Handed, handed_of, first_session, handed_within}
-use Rattle.ckr_service.specs.Calls.{calls, is_refusal}
-use Rattle.ckr_service.specs.Service.{text_to}
-use Rattle.ckr_service.specs.Staff.{StaffedDesk}
+use Rattle.ckr_session.specs.Model.Cut.{items_of}
+use Rattle.ckr_session.specs.Model.Session.{Handed, handed_of, first_session, handed_within}
+use Rattle.ckr_session.specs.Calls.{calls, is_refusal}
+use Rattle.ckr_session.specs.Service.{text_to}
+use Rattle.ckr_session.specs.Staff.{StaffedDesk}
 
 abbrev pub is_line_end : ℕ → Bool
 is_line_end b = b == 10

@@ -1,23 +1,18 @@
 //! The stream in pieces, and the text that goes to the sink.
 ghost use Rattle.std.specs.Prelude.{◌≡◌, ◌<◌, ◌≤◌, ◌+◌, ◌*◌, ◌^◌, [], ◌∷◌, List, ℕ, OnOk, OnErr, IfOk, IfErr, false, true, length};
 ghost use Rattle.ckr_outside.specs.Faults.{Rose};
-ghost use Rattle.ckr_cards.specs.Session.{first_session};
-ghost use Rattle.ckr_desk.specs.Soundness.{IsTrusted};
-ghost use Rattle.ckr_service.specs.Stops.{Goes, Stopped};
-ghost use Rattle.ckr_desk.specs.State.{IsOpen, disk_of};
-ghost use Rattle.ckr_service.specs.Lines.{EndsTold, FailsBy, Telling, WritesAll, WritesFront, telling};
-ghost use Rattle.ckr_service.specs.Service.{ServesTelling, HaltsTelling, HaltCause, StopsWithin, RestWritten, Caused, seen, staffed_of, stop_of};
-ghost use Rattle.ckr_service.specs.Sessions.{HasFewCards, standing_of};
+ghost use Rattle.ckr_session.specs.Model.Soundness.{IsTrusted};
+ghost use Rattle.ckr_session.specs.Stops.{Goes, Stopped};
+ghost use Rattle.ckr_session.specs.Model.State.{IsOpen, disk_of};
+ghost use Rattle.ckr_session.specs.Lines.{EndsTold, FailsBy, Telling, WritesAll, WritesFront, telling};
+ghost use Rattle.ckr_session.specs.Service.{ServesTelling, HaltsTelling, HaltCause, StopsWithin, RestWritten, Caused, seen, staffed_of, stop_of};
+ghost use Rattle.ckr_session.specs.Sessions.{HasFewCards};
 ghost use Rattle.ckr_service.specs.Flows.{CutsLine, EndsLine, Carries, Breaks, Finishes, FinishBreaks, IsBegun, end_requests, line_requests};
 
-use crate::lines::Lines;
-use crate::roster::Roster;
-use crate::session::Session;
-use crate::stop::{Halt, Stop};
 use ckr_base::without_return;
 use ckr_console::Operator;
-use ckr_desk::Desk;
 use ckr_outside::{Disk, Sink};
+use ckr_session::{Desk, Halt, Lines, Roster, Session, Stop};
 use std::alloc::Global;
 
 /// All that was told is written, unless the sink failed.

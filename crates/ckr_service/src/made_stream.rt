@@ -2,8 +2,8 @@
 ghost use Rattle.std.specs.Prelude.{◌≡◌, ◌<◌, ◌%◌, ◌==◌, ◌++◌, [], OnOk, IfOk, codes, if◌then◌else◌};
 ghost use Rattle.ckr_service.specs.MadeStream.{line, made_cards, made_commands, made_deck, made_head, made_records, made_stream, made_tail, numbered};
 
-use crate::text::Text;
 use ckr_base::{NoMemory, last_digits};
+use ckr_session::Text;
 use std::alloc::Global;
 
 /// The cards of the installation.

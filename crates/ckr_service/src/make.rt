@@ -1,23 +1,21 @@
 //! The command that formats a disk and serves the made stream on it.
 ghost use Rattle.std.specs.Prelude.{◌≡◌, ◌≤◌, Some, length, map};
-ghost use Rattle.ckr_desk.specs.Soundness.{AllSound, Sound, desk_opening};
+ghost use Rattle.ckr_session.specs.Model.Soundness.{AllSound, Sound, desk_opening};
 ghost use Rattle.ckr_outside.specs.Disk.{EachSince};
 ghost use Rattle.ckr_service.specs.CallEnds.{is_whole};
 ghost use Rattle.ckr_service.specs.Completeness.{CompletesMake, CompletesStream, NeitherFailed};
 ghost use Rattle.ckr_service.specs.Makes.{HasMade, RunsOver, TellsCounts};
 
-use crate::counts::Counts;
 use crate::faultless::{Bytes, Discard};
 use crate::made_disk::{MADE_SIZE, format_made};
 use crate::made_stream::stream_of;
 use crate::run::{Ran, run, serving_status};
-use crate::stop::Stop;
 use crate::top::{Closed, formatting_status};
 use ckr_base::NoMemory;
 use ckr_console::Operator;
 use ckr_desk_format::FormatOutcome;
 use ckr_outside::{Disk, Failed, Sink, put_all};
-use ckr_report::{TextLine, totals_line};
+use ckr_session::{Counts, Stop, TextLine, totals_line};
 use std::alloc::Global;
 
 /// Writes the line of what a stream came to, where that is known.

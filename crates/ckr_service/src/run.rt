@@ -1,23 +1,20 @@
 //! A run: the disk is opened, and a stream is served on it.
 ghost use Rattle.std.specs.Prelude.{◌≡◌, ◌≤◌, IfSome, Ok, map, true};
-ghost use Rattle.ckr_desk.specs.FirstSync.{FromSync, IsLeft};
-ghost use Rattle.ckr_desk.specs.Model.OpenImages.{event_records};
-ghost use Rattle.ckr_desk.specs.Soundness.{AllSound, HasKept, Sound, desk_opening};
-ghost use Rattle.ckr_desk.specs.State.{RoomyDesk};
+ghost use Rattle.ckr_session.specs.Model.FirstSync.{FromSync, IsLeft};
+ghost use Rattle.ckr_session.specs.Model.OpenImages.{event_records};
+ghost use Rattle.ckr_session.specs.Model.Soundness.{AllSound, HasKept, Sound, desk_opening};
+ghost use Rattle.ckr_session.specs.Model.State.{RoomyDesk};
 ghost use Rattle.ckr_outside.specs.Disk.{EachSince};
 ghost use Rattle.ckr_service.specs.CallEnds.{HasRun, is_whole, opening_status, serving_status};
 ghost use Rattle.ckr_service.specs.Completeness.{CompletesRun};
 ghost use Rattle.ckr_service.specs.Feeds.{IsCounted, faults_of};
-ghost use Rattle.ckr_service.specs.Staff.{staffed_with};
-ghost use Rattle.ckr_service.specs.Stops.{HasEverywhere};
+ghost use Rattle.ckr_session.specs.Staff.{staffed_with};
+ghost use Rattle.ckr_session.specs.Stops.{HasEverywhere};
 
-use crate::counts::Counts;
-use crate::roster::Roster;
-use crate::stop::Stop;
 use crate::stream::{Served, serve};
 use ckr_console::Operator;
-use ckr_desk::{Desk, OpenError, Opening};
 use ckr_outside::{Disk, Sink, Source};
+use ckr_session::{Counts, Desk, OpenError, Opening, Roster, Stop};
 use std::alloc::Global;
 
 /// The status of a stream that was served.

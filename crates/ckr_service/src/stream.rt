@@ -1,22 +1,19 @@
 //! The whole stream, from the source to the sink.
-ghost use Rattle.std.specs.Prelude.{◌≡◌, ◌<◌, ◌≤◌, ◌+◌, ◌*◌, ◌^◌, OnOk, OnErr, IfOk, IfErr, IfSome, length, take};
+ghost use Rattle.std.specs.Prelude.{◌≡◌, ◌<◌, ◌≤◌, ◌+◌, ◌^◌, OnOk, OnErr, IfOk, IfErr, IfSome, length, take};
 ghost use Rattle.std.specs.Io.KnownBytes.{Consumes, Keeps, IsAtEnd};
 ghost use Rattle.ckr_outside.specs.Faults.{Rose};
-ghost use Rattle.ckr_desk.specs.Soundness.{IsTrusted};
-ghost use Rattle.ckr_service.specs.Stops.{Goes, HasSuch, KeepsTo};
-ghost use Rattle.ckr_desk.specs.State.{IsOpen, disk_of};
+ghost use Rattle.ckr_session.specs.Model.Soundness.{IsTrusted};
+ghost use Rattle.ckr_session.specs.Stops.{Goes, HasSuch, KeepsTo};
+ghost use Rattle.ckr_session.specs.Model.State.{IsOpen, disk_of};
 ghost use Rattle.ckr_service.specs.Flows.{IsBegun};
-ghost use Rattle.ckr_service.specs.Service.{seen, staffed_by, staffed_of};
-ghost use Rattle.ckr_service.specs.Sessions.{HasFewCards};
+ghost use Rattle.ckr_session.specs.Service.{seen, staffed_by, staffed_of};
+ghost use Rattle.ckr_session.specs.Sessions.{HasFewCards};
 ghost use Rattle.ckr_service.specs.Feeds.{Serving, FedAll, IsBehind, IsCounted, IsStopped, faults_of};
 
-use crate::counts::{Counts, counts_of};
 use crate::flow::Flow;
-use crate::roster::Roster;
-use crate::stop::Stop;
 use ckr_console::Operator;
-use ckr_desk::Desk;
 use ckr_outside::{Disk, Failed, PIECE_BYTES, STREAM_LIMIT, Sink, Source, take_piece};
+use ckr_session::{Counts, Desk, Roster, Stop, counts_of};
 use std::alloc::Global;
 
 /// Takes the next bytes, one more than the limit at most.

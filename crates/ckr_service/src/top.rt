@@ -3,13 +3,13 @@ ghost use Rattle.std.specs.Prelude.{◌≡◌, List, None, Some, map, string_byt
 ghost use Rattle.std.specs.Io.KnownBytes.{Keeps};
 ghost use Rattle.ckr_console.specs.declared.scripts.Script.{Script};
 ghost use Rattle.ckr_words.specs.Words.{command_of};
-ghost use Rattle.ckr_desk.specs.FirstSync.{FromSync, IsLeft};
-ghost use Rattle.ckr_desk.specs.Model.OpenImages.{event_records};
-ghost use Rattle.ckr_desk.specs.Soundness.{AllSound, HasKept, Sound, desk_opening};
+ghost use Rattle.ckr_session.specs.Model.FirstSync.{FromSync, IsLeft};
+ghost use Rattle.ckr_session.specs.Model.OpenImages.{event_records};
+ghost use Rattle.ckr_session.specs.Model.Soundness.{AllSound, HasKept, Sound, desk_opening};
 ghost use Rattle.ckr_desk_format.specs.Formats.{IsFormatted, FormatsBy};
 ghost use Rattle.ckr_outside.specs.Disk.{EachSince};
 ghost use Rattle.ckr_service.specs.Feeds.{faults_of};
-ghost use Rattle.ckr_service.specs.Stops.{HasEverywhere};
+ghost use Rattle.ckr_session.specs.Stops.{HasEverywhere};
 ghost use Rattle.ckr_service.specs.CallEnds.{HasFormatted, HasRun, formatting_status};
 ghost use Rattle.ckr_service.specs.Makes.{HasMade};
 ghost use Rattle.ckr_service.specs.Completeness.{CompletesFormat, CompletesMake, CompletesRun, NeitherFailed};

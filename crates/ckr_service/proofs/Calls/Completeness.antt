@@ -6,22 +6,22 @@ use Rattle.std.specs.Str.Lines.{lines}
 use Rattle.ckr_base.proofs.Bools.{false-not-true, true-not-false}
 use Rattle.ckr_console.specs.Answering.{Answering}
 use Rattle.ckr_outside.specs.Faults.{Rose}
-use Rattle.ckr_desk.specs.Model.Layout.{Layout}
-use Rattle.ckr_desk.specs.declared.error.OpenError.{OpenError}
-use Rattle.ckr_desk.specs.declared.error.OpenError.TheVariants as OpenErrors
-use Rattle.ckr_desk.specs.Replay.{OpenCause}
-use Rattle.ckr_desk.specs.State.{RoomyDesk}
+use Rattle.ckr_session.specs.Model.Layout.{Layout}
+use Rattle.ckr_session.specs.Model.OpenError.{OpenError}
+use Rattle.ckr_session.specs.Model.OpenError.TheVariants as OpenErrors
+use Rattle.ckr_session.specs.Model.Replay.{OpenCause}
+use Rattle.ckr_session.specs.Model.State.{RoomyDesk}
 use Rattle.ckr_desk_format.specs.declared.command.FormatOutcome.{FormatOutcome}
 use Rattle.ckr_desk_format.specs.declared.command.FormatOutcome.TheVariants as Outcomes
 use Rattle.ckr_desk_format.specs.Formats.{CausedBy, Ends}
 use Rattle.ckr_desk_format.specs.Installation.{installation_of}
-use Rattle.ckr_service.specs.declared.stop.Stop.{Stop}
-use Rattle.ckr_service.specs.declared.stop.Stop.TheVariants as Stops
-use Rattle.ckr_service.specs.Calls.{all_fit}
+use Rattle.ckr_session.specs.declared.stop.Stop.{Stop}
+use Rattle.ckr_session.specs.declared.stop.Stop.TheVariants as Stops
+use Rattle.ckr_session.specs.Calls.{all_fit}
 use Rattle.ckr_service.specs.CallEnds.{Ended, EndsSo, HasFormatted, HasRun, NotOpened, RunEnd, formatting_status, opening_status, serving_status, status_of}
 use Rattle.ckr_service.specs.Completeness.{CompletesFormat, CompletesRun, EndsOrLacks, NoneFailed, carried_status, served_status}
 use Rattle.ckr_service.specs.Feeds.{Faults, IsServed, IsStopped, Serving}
-use Rattle.ckr_service.specs.Staff.{StaffedDesk, staffed_with}
+use Rattle.ckr_session.specs.Staff.{StaffedDesk, staffed_with}
 use Rattle.ckr_service.specs.Stream.{has_refusal, requests_of}
 
 -- ---- the bytes of the source

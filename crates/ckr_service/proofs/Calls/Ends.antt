@@ -4,21 +4,21 @@ use Rattle.std.specs.Prelude.{IsOkAnd}
 use Rattle.std.specs.Io.KnownBytes.{Keeps}
 use Rattle.ckr_console.specs.Answering.{Answering}
 use Rattle.ckr_outside.specs.Faults.{Rose}
-use Rattle.ckr_desk.specs.Model.Layout.{Layout}
+use Rattle.ckr_session.specs.Model.Layout.{Layout}
 use Rattle.ckr_desk_format.specs.declared.command.FormatOutcome.{FormatOutcome}
 use Rattle.ckr_desk_format.specs.declared.command.FormatOutcome.TheVariants as Outcomes
 use Rattle.ckr_desk_format.specs.Formats.{Ends, CausedBy, IsFormatted, CarriedOut}
-use Rattle.ckr_desk.specs.declared.error.OpenError.{OpenError}
-use Rattle.ckr_desk.specs.Replay.{OpenCause}
-use Rattle.ckr_desk.specs.Opening.{opening_of}
-use Rattle.ckr_desk.specs.Soundness.{AllSound, desk_of_opened, desk_opening}
-use Rattle.ckr_desk.specs.State.{Opened, RoomyDesk}
-use Rattle.ckr_service.specs.declared.stop.Stop.{Stop}
+use Rattle.ckr_session.specs.Model.OpenError.{OpenError}
+use Rattle.ckr_session.specs.Model.Replay.{OpenCause}
+use Rattle.ckr_session.specs.Model.Opening.{opening_of}
+use Rattle.ckr_session.specs.Model.Soundness.{AllSound, desk_of_opened, desk_opening}
+use Rattle.ckr_session.specs.Model.State.{Opened, RoomyDesk}
+use Rattle.ckr_session.specs.declared.stop.Stop.{Stop}
 use Rattle.ckr_service.specs.Feeds.{Faults, Serving, faults_of}
-use Rattle.ckr_service.specs.Staff.{StaffedDesk, staffed_with}
+use Rattle.ckr_session.specs.Staff.{StaffedDesk, staffed_with}
 use Rattle.ckr_service.specs.CallEnds.{Ended, NotOpened, HasRun, TakesAtMost, HasFormatted, opening_status, serving_status, formatting_status}
 use Rattle.ckr_service.proofs.Streams.Feeds.{Consumes-nil}
-use Rattle.ckr_desk.proofs.Openings.FreshDisks.{fresh_image}
+use Rattle.ckr_session.proofs.FreshDisks.{fresh_image}
 
 pub Keeps-refl : (a : Option (List ℕ)) → Keeps a a
 Keeps-refl None = tt

@@ -2,13 +2,13 @@
 use Rattle.std.proofs.Common.{◌≡◌, ◌≤◌, ◌++◌, ◌∙◌, ℕ, List, [], ⊎_elim, ap, sym, subst}
 use Rattle.ckr_outside.specs.Disk.{EachSince, OnlyReads}
 use Rattle.ckr_outside.specs.Moments.{and_then, in_other_words}
-use Rattle.ckr_desk.specs.Model.OpenImages.{event_records}
-use Rattle.ckr_desk.specs.declared.error.OpenError.{OpenError}
-use Rattle.ckr_desk.specs.FirstSync.{FailsLate, FromSync, IsLeft}
-use Rattle.ckr_desk.specs.Soundness.{AllSound, HasKept, Sound}
-use Rattle.ckr_desk.specs.State.{DeskView, disk_of, layout_of}
-use Rattle.ckr_service.specs.Stops.{HasBehind, HasEverywhere, HasSuch, KeepsTo}
-use Rattle.ckr_service.proofs.Calls.Stops.{kept_more}
+use Rattle.ckr_session.specs.Model.OpenImages.{event_records}
+use Rattle.ckr_session.specs.Model.OpenError.{OpenError}
+use Rattle.ckr_session.specs.Model.FirstSync.{FailsLate, FromSync, IsLeft}
+use Rattle.ckr_session.specs.Model.Soundness.{AllSound, HasKept, Sound}
+use Rattle.ckr_session.specs.Model.State.{DeskView, disk_of, layout_of}
+use Rattle.ckr_session.specs.Stops.{HasBehind, HasEverywhere, HasSuch, KeepsTo}
+use Rattle.ckr_session.proofs.Calls.Stops.{kept_more}
 
 module _ {D : Type 0} (told : Type 0) (content : D → List ℕ) (may_leave : D → List ℕ → Type 0) (moment : D → ℕ) (left_since : D → ℕ → List ℕ → Type 0) (size : D → ℕ) where
   -- the disk is opened, and then these events came

@@ -1,15 +1,15 @@
 -- The text of a call, and what is written of it.
 use Rattle.std.proofs.Common.{◌≡◌, ◌≤◌, ℕ, List, [], ◌++◌, Option, refl, sym, ap, subst, ◌∙◌, append-nil}
 use Rattle.ckr_outside.specs.Front.{AppendsFront}
-use Rattle.ckr_cards.specs.Session.{Handed}
-use Rattle.ckr_service.specs.Staff.{StaffedDesk}
-use Rattle.ckr_service.specs.declared.stop.Halt.{Halt}
-use Rattle.ckr_service.specs.declared.stop.Stop.{Stop}
-use Rattle.ckr_service.specs.declared.stop.Stop.TheVariants as Stops
-use Rattle.ckr_service.specs.Lines.{EndsTold, Telling, WritesFront}
-use Rattle.ckr_service.specs.Service.{View, Serves, HaltsSo, HaltsTelling, ServesTelling, StopsWithin, RestWritten, stop_of, text_to}
-use Rattle.ckr_service.specs.Events.{events_told}
-use Rattle.ckr_service.proofs.Service.Halts.{rest_written}
+use Rattle.ckr_session.specs.Model.Session.{Handed}
+use Rattle.ckr_session.specs.Staff.{StaffedDesk}
+use Rattle.ckr_session.specs.declared.stop.Halt.{Halt}
+use Rattle.ckr_session.specs.declared.stop.Stop.{Stop}
+use Rattle.ckr_session.specs.declared.stop.Stop.TheVariants as Stops
+use Rattle.ckr_session.specs.Lines.{EndsTold, Telling, WritesFront}
+use Rattle.ckr_session.specs.Service.{View, Serves, HaltsSo, HaltsTelling, ServesTelling, StopsWithin, RestWritten, stop_of, text_to}
+use Rattle.ckr_session.specs.Events.{events_told}
+use Rattle.ckr_session.proofs.Service.Halts.{rest_written}
 
 -- what was told, where nothing waited before
 pub serves_first : (a b : View) (xs : List Handed) (t u : List ℕ) → t ≡ [] → Serves a b xs t u → Serves a b xs [] u

@@ -5,18 +5,18 @@ use Rattle.std.specs.Str.Lines.{lines, lines_of_parts, strip_carriage_return}
 use Rattle.std.specs.Io.KnownBytes.{Appends}
 use Rattle.std.proofs.lemmas.List.Splits.{slice_split_none}
 use Rattle.ckr_base.proofs.KnownBytes.{Appends-trans}
-use Rattle.ckr_cards.specs.Session.{Handed, first_session, handed_by, session_behind, handed_with, handed_within, handed_deck}
-use Rattle.ckr_cards.proofs.Sessions.{handed_by-append}
+use Rattle.ckr_session.specs.Model.Session.{Handed, first_session, handed_by, session_behind, handed_with, handed_within, handed_deck}
+use Rattle.ckr_session.proofs.Sessions.{handed_by-append}
 use Rattle.ckr_service.specs.declared.flow.Flow.{Flow}
-use Rattle.ckr_service.specs.declared.stop.Stop.{Stop}
-use Rattle.ckr_service.specs.Calls.{calls, is_refusal}
-use Rattle.ckr_service.specs.Service.{View, Serves, StopsWithin, seen}
-use Rattle.ckr_service.specs.Sessions.{standing_of}
+use Rattle.ckr_session.specs.declared.stop.Stop.{Stop}
+use Rattle.ckr_session.specs.Calls.{calls, is_refusal}
+use Rattle.ckr_session.specs.Service.{View, Serves, StopsWithin, seen}
+use Rattle.ckr_session.specs.Sessions.{standing_of}
 use Rattle.ckr_service.specs.Stream.{is_line_end, requests_of}
 use Rattle.ckr_service.specs.Flows.{StreamProgress, Finishes, FinishBreaks, last_lines, end_requests, told_so_far}
 use Rattle.ckr_service.proofs.Streams.Requests.{requests_of-lines}
-use Rattle.ckr_service.proofs.Service.Halts.{stops_behind}
-use Rattle.ckr_service.proofs.Service.Order.{Serves-from}
+use Rattle.ckr_session.proofs.Service.Halts.{stops_behind}
+use Rattle.ckr_session.proofs.Service.Order.{Serves-from}
 use Rattle.ckr_service.proofs.Streams.Pieces.{lines_behind}
 
 module _ {D O : Type 0} (content : D → List ℕ) where

@@ -6,21 +6,21 @@ use Rattle.std.proofs.lemmas.List.{take_at, take-take, length-take-le}
 use Rattle.std.proofs.lemmas.List.Elements.{All-nil}
 use Rattle.ckr_base.proofs.KnownBytes.{Appends-nil, Consumes-trans}
 use Rattle.ckr_outside.specs.Faults.{Rose}
-use Rattle.ckr_desk.specs.State.{disk_of}
-use Rattle.ckr_service.specs.Staff.{StaffedDesk}
-use Rattle.ckr_service.specs.declared.clerk.Clerk.{Clerk}
+use Rattle.ckr_session.specs.Model.State.{disk_of}
+use Rattle.ckr_session.specs.Staff.{StaffedDesk}
+use Rattle.ckr_session.specs.declared.clerk.Clerk.{Clerk}
 use Rattle.ckr_service.specs.declared.flow.Flow.{Flow}
-use Rattle.ckr_service.specs.declared.stop.Stop.{Stop}
-use Rattle.ckr_service.specs.declared.stop.Stop.TheVariants as Stops
-use Rattle.ckr_service.specs.Service.{View, StopsWithin, Caused, seen}
+use Rattle.ckr_session.specs.declared.stop.Stop.{Stop}
+use Rattle.ckr_session.specs.declared.stop.Stop.TheVariants as Stops
+use Rattle.ckr_session.specs.Service.{View, StopsWithin, Caused, seen}
 use Rattle.ckr_service.specs.Stream.{is_line_end, requests_of}
 use Rattle.ckr_service.specs.Flows.{IsBegun, Carries, Breaks, Finishes, FinishBreaks, told_so_far}
-use Rattle.ckr_service.specs.Events.{events_told}
-use Rattle.ckr_service.specs.Stops.{Goes, HasSuch, KeepsTo, Stopped}
-use Rattle.ckr_service.proofs.Calls.Stops.{came_exactly, goes_then, stopped_behind, stopped_here}
+use Rattle.ckr_session.specs.Events.{events_told}
+use Rattle.ckr_session.specs.Stops.{Goes, HasSuch, KeepsTo, Stopped}
+use Rattle.ckr_session.proofs.Calls.Stops.{came_exactly, goes_then, stopped_behind, stopped_here}
 use Rattle.ckr_service.specs.Feeds.{IsServed, IsStopped, StopCause, StopsAt, HasServed, Serving, Faults, faults_of, Feeding, FedAll}
-use Rattle.ckr_service.proofs.Service.Halts.{rose_earlier, cause_earlier, stops_earlier}
-use Rattle.ckr_service.proofs.Service.Order.{Serves-nil}
+use Rattle.ckr_session.proofs.Service.Halts.{rose_earlier, cause_earlier, stops_earlier}
+use Rattle.ckr_session.proofs.Service.Order.{Serves-nil}
 use Rattle.ckr_service.proofs.Streams.Texts.{ended_told}
 
 -- ---- known bytes

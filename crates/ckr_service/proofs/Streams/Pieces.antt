@@ -2,7 +2,7 @@
 use Rattle.std.proofs.Common.{◌≡◌, ℕ, Bool, true, false, if◌then◌else◌, List, [], ◌∷◌, ◌++◌, map, refl, sym, ap, ◌∙◌}
 use Rattle.std.specs.List.{slice_split, onto_first}
 use Rattle.std.specs.Str.Lines.{lines, lines_of_parts, strip_carriage_return}
-use Rattle.ckr_cards.specs.Session.{SessionModel as Standing, session_behind, session_behind_all}
+use Rattle.ckr_session.specs.Model.Session.{SessionModel as Standing, session_behind, session_behind_all}
 use Rattle.ckr_service.specs.Stream.{is_line_end, ended_parts}
 
 -- ---- lines

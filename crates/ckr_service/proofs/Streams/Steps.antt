@@ -6,13 +6,13 @@ use Rattle.std.proofs.lemmas.List.{map-append}
 use Rattle.std.proofs.lemmas.List.Elements.{All-nil}
 use Rattle.std.proofs.lemmas.List.Splits.{slice_split_at}
 use Rattle.ckr_base.proofs.KnownBytes.{Appends-trans}
-use Rattle.ckr_cards.specs.Session.{Handed, SessionModel as Standing, first_session, session_behind, session_behind_all, handed_with, handed_within}
-use Rattle.ckr_cards.proofs.Sessions.{handed_within-append}
+use Rattle.ckr_session.specs.Model.Session.{Handed, SessionModel as Standing, first_session, session_behind, session_behind_all, handed_with, handed_within}
+use Rattle.ckr_session.proofs.Sessions.{handed_within-append}
 use Rattle.ckr_service.specs.declared.flow.Flow.{Flow}
-use Rattle.ckr_service.specs.Service.{View, Serves, seen}
+use Rattle.ckr_session.specs.Service.{View, Serves, seen}
 use Rattle.ckr_service.specs.Stream.{is_line_end}
 use Rattle.ckr_service.specs.Flows.{EndsLine, StreamProgress}
-use Rattle.ckr_service.proofs.Service.Order.{Serves-from}
+use Rattle.ckr_session.proofs.Service.Order.{Serves-from}
 use Rattle.ckr_service.proofs.Streams.Pieces.{session_behind_all-append}
 
 -- the parts, one more ended

@@ -6,20 +6,20 @@ use Rattle.std.specs.Io.KnownBytes.{Appends}
 use Rattle.std.proofs.lemmas.List.{append_cancel_left}
 use Rattle.std.proofs.lemmas.List.Splits.{slice_split_none}
 use Rattle.ckr_base.proofs.KnownBytes.{Appends-nil}
-use Rattle.ckr_cards.specs.Session.{Handed, first_session, handed_by, session_behind_all, handed_with, handed_within}
-use Rattle.ckr_cards.proofs.Sessions.{handed_by-append}
+use Rattle.ckr_session.specs.Model.Session.{Handed, first_session, handed_by, session_behind_all, handed_with, handed_within}
+use Rattle.ckr_session.proofs.Sessions.{handed_by-append}
 use Rattle.ckr_service.specs.declared.flow.Flow.{Flow}
-use Rattle.ckr_service.specs.declared.stop.Stop.{Stop}
-use Rattle.ckr_service.specs.declared.stop.Stop.TheVariants as Stops
-use Rattle.ckr_service.specs.Calls.{all_fit}
-use Rattle.ckr_service.specs.Events.{events_told}
-use Rattle.ckr_service.specs.Service.{View, StopsWithin, seen, text_to}
+use Rattle.ckr_session.specs.declared.stop.Stop.{Stop}
+use Rattle.ckr_session.specs.declared.stop.Stop.TheVariants as Stops
+use Rattle.ckr_session.specs.Calls.{all_fit}
+use Rattle.ckr_session.specs.Events.{events_told}
+use Rattle.ckr_session.specs.Service.{View, StopsWithin, seen, text_to}
 use Rattle.ckr_service.specs.Stream.{is_line_end, requests_of, ended_parts, ended_requests}
 use Rattle.ckr_service.specs.Feeds.{HasServed}
 use Rattle.ckr_service.specs.Flows.{StreamProgress, EndsLine, Carries, Breaks, line_requests, told_so_far}
 use Rattle.ckr_service.proofs.Streams.Requests.{requests_of-lines}
-use Rattle.ckr_service.proofs.Service.Events.{comes_all}
-use Rattle.ckr_service.proofs.Service.Halts.{stops_behind, stops_earlier}
+use Rattle.ckr_session.proofs.Service.Events.{comes_all}
+use Rattle.ckr_session.proofs.Service.Halts.{stops_behind, stops_earlier}
 use Rattle.ckr_service.proofs.Streams.Pieces.{lines_behind, ended_parts-push}
 use Rattle.ckr_service.proofs.Streams.Steps.{pushed_requests, split_at_end, line_served}
 

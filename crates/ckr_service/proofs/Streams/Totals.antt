@@ -3,22 +3,22 @@ use Rattle.std.proofs.Common.{◌≡◌, ℕ, Bool, true, false, List, Option, N
 use Rattle.std.specs.Prelude.{IfSome}
 use Rattle.std.proofs.lemmas.Bool.{false≢true}
 use Rattle.ckr_console.specs.Answering.{Answering}
-use Rattle.ckr_desk.specs.declared.error.OpenError.{OpenError}
-use Rattle.ckr_desk.specs.State.{RoomyDesk}
-use Rattle.ckr_service.specs.declared.counts.Counts.{Counts}
+use Rattle.ckr_session.specs.Model.OpenError.{OpenError}
+use Rattle.ckr_session.specs.Model.State.{RoomyDesk}
+use Rattle.ckr_session.specs.declared.counts.Counts.{Counts}
 use Rattle.ckr_service.specs.declared.flow.Flow.{Flow}
-use Rattle.ckr_service.specs.declared.stop.Stop.{Stop}
-use Rattle.ckr_service.specs.declared.stop.Stop.TheVariants as Stops
-use Rattle.ckr_service.specs.declared.tally.Tally.{Tally}
+use Rattle.ckr_session.specs.declared.stop.Stop.{Stop}
+use Rattle.ckr_session.specs.declared.stop.Stop.TheVariants as Stops
+use Rattle.ckr_session.specs.declared.tally.Tally.{Tally}
 use Rattle.ckr_service.specs.CallEnds.{is_whole, serving_status}
-use Rattle.ckr_service.specs.Calls.{calls}
-use Rattle.ckr_service.specs.Counts.{counts_behind, counts_of}
+use Rattle.ckr_session.specs.Calls.{calls}
+use Rattle.ckr_session.specs.Counts.{counts_behind, counts_of}
 use Rattle.ckr_service.specs.Feeds.{FedAll, IsBehind, IsCounted}
 use Rattle.ckr_service.specs.Flows.{Finishes}
-use Rattle.ckr_service.specs.Service.{View}
-use Rattle.ckr_service.specs.Staff.{StaffedDesk, staffed_with}
+use Rattle.ckr_session.specs.Service.{View}
+use Rattle.ckr_session.specs.Staff.{StaffedDesk, staffed_with}
 use Rattle.ckr_service.specs.Stream.{requests_of}
-use Rattle.ckr_service.specs.Tallies.{no_tally, with_answers}
+use Rattle.ckr_session.specs.Tallies.{no_tally, with_answers}
 
 pub behind_on : {D O : Type 0} (content : D → List ℕ) (trusted : Type 0) (first : View) (f : Flow D O) (last : View) (r : Result Bool Stop) (left rest old mid new : Option (List ℕ))
     → first.refused ≡ false → FedAll content trusted first f left rest old mid → (trusted → IfOk r (λ refused. Finishes content f last refused mid new)) → OnOk r (IsBehind trusted first last left rest)

@@ -1,6 +1,6 @@
 use Rattle.std.proofs.Common.{[], append-nil, sym}
-use Rattle.ckr_service.specs.Lines.{telling}
-use Rattle.ckr_service.proofs.Tellings.{all_written, front_told}
+use Rattle.ckr_session.specs.Lines.{telling}
+use Rattle.ckr_session.proofs.Tellings.{all_written, front_told}
 use Rattle.ckr_service.proofs.flow.write.Goals as goal
 
 pub returns-then-lines-clause-err : goal.returns-then-lines-clause-err

@@ -1,11 +1,11 @@
 use Rattle.std.proofs.Common.{◌≤◌, ◌*◌, ℕ, List, Ok, inr, length, map, refl, sym, ap, subst, ◌∙◌, arith}
-use Rattle.ckr_desk.specs.Soundness.{fresh_desk}
-use Rattle.ckr_desk.proofs.Openings.FreshDisks.{fresh-opens}
+use Rattle.ckr_session.specs.Model.Soundness.{fresh_desk}
+use Rattle.ckr_session.proofs.FreshDisks.{fresh-opens}
 use Rattle.ckr_desk_format.specs.declared.command.FormatOutcome.{FormatOutcome}
-use Rattle.ckr_service.specs.Calls.{all_fit}
+use Rattle.ckr_session.specs.Calls.{all_fit}
 use Rattle.ckr_service.specs.MadeDisk.{FormatsSo, made_layout}
 use Rattle.ckr_service.specs.MadeStream.{made_size}
-use Rattle.ckr_service.specs.Staff.{staffed_with}
+use Rattle.ckr_session.specs.Staff.{staffed_with}
 use Rattle.ckr_service.specs.Stream.{requests_of}
 use Rattle.ckr_service.proofs.Calls.Ends.{Keeps-refl, all_sound}
 use Rattle.ckr_service.proofs.MadeEnds.{rose-sooner, unformatted-lacks}

@@ -2,7 +2,7 @@ use Rattle.std.proofs.Common.{Some, ap, map, sym, ◌∙◌}
 use Rattle.ckr_service.specs.Completeness.{GivesAll}
 use Rattle.ckr_service.specs.Faultless.{bytes_left}
 use Rattle.ckr_service.specs.Feeds.{faults_of}
-use Rattle.ckr_service.specs.Staff.{staffed_with}
+use Rattle.ckr_session.specs.Staff.{staffed_with}
 use Rattle.ckr_service.proofs.MadeDisks.{not_rose}
 use Rattle.ckr_service.proofs.MadeEnds.{lacks-memory, line-completes}
 use Rattle.ckr_service.proofs.MadeRuns.{runs_nothing, runs_whole}

@@ -1,17 +1,17 @@
 use Rattle.std.proofs.Common.{◌∙◌, ◌≤◌, ℕ, List, arith, map}
-use Rattle.ckr_desk.specs.FirstSync.{FromSync, IsLeft}
-use Rattle.ckr_desk.specs.Model.Layout.{Layout}
-use Rattle.ckr_desk.specs.Model.OpenImages.{event_records}
-use Rattle.ckr_desk.specs.Soundness.{AllSound, HasKept, IsTrusted, desk_opening, state_of}
-use Rattle.ckr_desk.specs.State.{disk_of, layout_of, opened_of}
-use Rattle.ckr_service.specs.Service.{staffed_by}
-use Rattle.ckr_service.specs.Staff.{staffed_with}
-use Rattle.ckr_service.specs.Stops.{HasEverywhere, HasSuch, KeepsTo}
+use Rattle.ckr_session.specs.Model.FirstSync.{FromSync, IsLeft}
+use Rattle.ckr_session.specs.Model.Layout.{Layout}
+use Rattle.ckr_session.specs.Model.OpenImages.{event_records}
+use Rattle.ckr_session.specs.Model.Soundness.{AllSound, HasKept, IsTrusted, desk_opening, state_of}
+use Rattle.ckr_session.specs.Model.State.{disk_of, layout_of, opened_of}
+use Rattle.ckr_session.specs.Service.{staffed_by}
+use Rattle.ckr_session.specs.Staff.{staffed_with}
+use Rattle.ckr_session.specs.Stops.{HasEverywhere, HasSuch, KeepsTo}
 use Rattle.ckr_service.proofs.Calls.Completeness.{run-completes}
 use Rattle.ckr_service.proofs.Calls.Ends.{run_ended, run_not_opened}
 use Rattle.ckr_service.proofs.Calls.OpenStops.{all_sound_after, each_served, has_served, sound_from, sound_left}
-use Rattle.ckr_service.proofs.Service.Ends.{serving_so, some_came}
-use Rattle.ckr_service.proofs.Service.Staff.{staffed-opened}
+use Rattle.ckr_service.proofs.Streams.Servings.{serving_so, some_came}
+use Rattle.ckr_session.proofs.Service.Staff.{staffed-opened}
 use Rattle.ckr_service.proofs.Streams.Totals.{counted_from}
 use Rattle.ckr_service.proofs.run.run.Goals as goal
 

@@ -1,13 +1,13 @@
 use Rattle.std.proofs.Common.{◌≡◌, ◌≤◌, ◌+◌, ◌-◌, ◌∙◌, ℕ, List, [], refl, suc, length, take, drop, sym, ap, arith, append-nil}
 use Rattle.std.proofs.lemmas.List.{length-take-le}
 use Rattle.ckr_base.proofs.Results.{err-holds}
-use Rattle.ckr_cards.specs.Session.{SessionModel as Standing}
-use Rattle.ckr_service.specs.Service.{seen}
+use Rattle.ckr_session.specs.Model.Session.{SessionModel as Standing}
+use Rattle.ckr_session.specs.Service.{seen}
 use Rattle.ckr_service.specs.Flows.{Carries}
 use Rattle.ckr_service.proofs.Streams.Feeds.{begun, fed, fed_all, stopped_within, stopped_by_source, stopped_by_limit, front_take, front_and_last}
-use Rattle.ckr_service.proofs.Calls.Stops.{goes_nowhere, goes_then}
+use Rattle.ckr_session.proofs.Calls.Stops.{goes_nowhere, goes_then}
 use Rattle.ckr_service.proofs.stream.feed_all.Goals as goal
-use Rattle.ckr_desk.specs.State.{disk_of}
+use Rattle.ckr_session.specs.Model.State.{disk_of}
 
 -- so many bytes are taken at most
 few_taken : (count taken : ℕ) (buffer : List ℕ) → (taken ≤ length buffer) × (count + taken ≤ 16_777_217) → count + length (take taken buffer) ≤ 16_777_217

@@ -1,9 +1,9 @@
 use Rattle.std.proofs.Common.{◌≡◌, ◌≤◌, ◌-◌, ◌+◌, length}
-use Rattle.ckr_desk.specs.Soundness.{IsTrusted}
-use Rattle.ckr_desk.specs.State.{IsOpen, disk_of}
-use Rattle.ckr_service.specs.Stops.{Goes}
-use Rattle.ckr_service.specs.Service.{seen}
-use Rattle.ckr_service.specs.Sessions.{HasFewCards}
+use Rattle.ckr_session.specs.Model.Soundness.{IsTrusted}
+use Rattle.ckr_session.specs.Model.State.{IsOpen, disk_of}
+use Rattle.ckr_session.specs.Stops.{Goes}
+use Rattle.ckr_session.specs.Service.{seen}
+use Rattle.ckr_session.specs.Sessions.{HasFewCards}
 use Rattle.ckr_service.specs.Feeds.{Feeding}
 use Rattle.ckr_service.proofs.stream.feed_all.Given as goal
 

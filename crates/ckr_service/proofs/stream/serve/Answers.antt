@@ -1,10 +1,10 @@
 use Rattle.std.proofs.Common.{sym, ap, subst, ◌∙◌}
-use Rattle.ckr_desk.specs.Soundness.{IsTrusted}
-use Rattle.ckr_service.specs.Service.{seen, staffed_by}
-use Rattle.ckr_service.proofs.Service.Ends.{serving_by}
+use Rattle.ckr_session.specs.Model.Soundness.{IsTrusted}
+use Rattle.ckr_session.specs.Service.{seen, staffed_by}
+use Rattle.ckr_service.proofs.Streams.Servings.{serving_by}
 use Rattle.ckr_service.proofs.Streams.Totals.{counted_behind}
 use Rattle.ckr_service.proofs.stream.serve.Goals as goal
-use Rattle.ckr_desk.specs.State.{DeskView, disk_of}
+use Rattle.ckr_session.specs.Model.State.{DeskView, disk_of}
 
 pub returns-clause-served : goal.returns-clause-served
 returns-clause-served g c =

@@ -1,4 +1,4 @@
-use Rattle.ckr_service.specs.Service.{seen}
+use Rattle.ckr_session.specs.Service.{seen}
 use Rattle.ckr_service.proofs.Streams.Feeds.{serving_on, serving_stopped}
 use Rattle.ckr_service.proofs.Streams.Totals.{behind_on}
 use Rattle.ckr_service.proofs.stream.serve_on.Goals as goal

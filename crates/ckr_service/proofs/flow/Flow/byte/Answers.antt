@@ -4,17 +4,17 @@ use Rattle.std.proofs.lemmas.Grind.{common_steps}
 use Rattle.std.proofs.lemmas.List.Elements.{All-push}
 use Rattle.std.specs.Str.Lines.{strip_carriage_return}
 use Rattle.ckr_base.proofs.Results.{err-holds}
-use Rattle.ckr_desk.specs.State.{disk_of}
-use Rattle.ckr_cards.specs.Session.{first_session, handed_within as asked_within}
+use Rattle.ckr_session.specs.Model.State.{disk_of}
+use Rattle.ckr_session.specs.Model.Session.{first_session, handed_within as asked_within}
 use Rattle.ckr_service.specs.declared.flow.Flow.{Flow}
-use Rattle.ckr_service.specs.declared.session.Session.{Session}
-use Rattle.ckr_service.specs.declared.stop.Stop.TheVariants as Stops
+use Rattle.ckr_session.specs.declared.session.Session.{Session}
+use Rattle.ckr_session.specs.declared.stop.Stop.TheVariants as Stops
 use Rattle.ckr_service.specs.Flows.{Breaks, Carries, line_requests}
-use Rattle.ckr_service.specs.Service.{Serves, StopsWithin, seen, staffed_of}
-use Rattle.ckr_service.specs.Sessions.{standing_of}
+use Rattle.ckr_session.specs.Service.{Serves, StopsWithin, seen, staffed_of}
+use Rattle.ckr_session.specs.Sessions.{standing_of}
 use Rattle.ckr_service.specs.Stream.{is_line_end}
 use Rattle.ckr_service.proofs.Streams.Texts.{line_served_on, line_broken_at, nothing_broken}
-use Rattle.ckr_service.proofs.Calls.Stops.{goes_nowhere, stopped_here, stopped_on}
+use Rattle.ckr_session.proofs.Calls.Stops.{goes_nowhere, stopped_here, stopped_on}
 use Rattle.ckr_service.proofs.flow.Flow.byte.Goals as goal
 
 -- a byte that ends no line waits with those before it

@@ -1,12 +1,12 @@
 use Rattle.ckr_base.proofs.Results.{err-holds}
-use Rattle.ckr_desk.specs.State.{disk_of}
-use Rattle.ckr_service.specs.Events.{events_told}
-use Rattle.ckr_service.specs.Lines.{telling}
-use Rattle.ckr_service.specs.Service.{HaltsTelling, seen, staffed_of}
+use Rattle.ckr_session.specs.Model.State.{disk_of}
+use Rattle.ckr_session.specs.Events.{events_told}
+use Rattle.ckr_session.specs.Lines.{telling}
+use Rattle.ckr_session.specs.Service.{HaltsTelling, seen, staffed_of}
 use Rattle.ckr_service.specs.Flows.{FinishBreaks, end_requests}
 use Rattle.ckr_service.proofs.Streams.End.{finished, finish_broken}
 use Rattle.ckr_service.proofs.Calls.Texts.{halted, unwritten}
-use Rattle.ckr_service.proofs.Calls.Stops.{stopped_here, stopped_so}
+use Rattle.ckr_session.proofs.Calls.Stops.{stopped_here, stopped_so}
 use Rattle.ckr_service.proofs.flow.Flow.end.Goals as goal
 
 pub returns-in-Ok-clause-ok : goal.returns-in-Ok-clause-ok

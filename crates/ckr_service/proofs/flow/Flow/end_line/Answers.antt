@@ -1,15 +1,15 @@
 use Rattle.std.proofs.Common.{List, ℕ, ap, subst, ◌∙◌}
 use Rattle.std.specs.Str.Lines.{strip_carriage_return}
 use Rattle.ckr_base.proofs.Results.{err-holds}
-use Rattle.ckr_cards.specs.Session.{handed_with, session_behind}
-use Rattle.ckr_desk.specs.State.{disk_of}
-use Rattle.ckr_service.specs.Events.{events_told}
+use Rattle.ckr_session.specs.Model.Session.{handed_with, session_behind}
+use Rattle.ckr_session.specs.Model.State.{disk_of}
+use Rattle.ckr_session.specs.Events.{events_told}
 use Rattle.ckr_service.specs.Flows.{line_requests}
-use Rattle.ckr_service.specs.Lines.{telling}
-use Rattle.ckr_service.specs.Service.{HaltsTelling, ServesTelling, StopsWithin, seen, staffed_of}
-use Rattle.ckr_service.specs.Sessions.{standing_of}
+use Rattle.ckr_session.specs.Lines.{telling}
+use Rattle.ckr_session.specs.Service.{HaltsTelling, ServesTelling, StopsWithin, seen, staffed_of}
+use Rattle.ckr_session.specs.Sessions.{standing_of}
 use Rattle.ckr_service.proofs.Calls.Texts.{halted, serves_first, unwritten}
-use Rattle.ckr_service.proofs.Calls.Stops.{stopped_here, stopped_so}
+use Rattle.ckr_session.proofs.Calls.Stops.{stopped_here, stopped_so}
 use Rattle.ckr_service.proofs.flow.Flow.end_line.Goals as goal
 
 pub returns-in-Ok-clause-ok : goal.returns-in-Ok-clause-ok

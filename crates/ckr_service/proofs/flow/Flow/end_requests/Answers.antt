@@ -1,18 +1,18 @@
 use Rattle.std.proofs.Common.{◌≡◌, ◌==◌, List, true, false, length, ap, subst, refl, arith, OnOk, IfErr}
 use Rattle.std.proofs.lemmas.Grind.{common_steps}
 use Rattle.ckr_base.proofs.Results.{err-holds}
-use Rattle.ckr_desk.specs.State.{disk_of}
-use Rattle.ckr_cards.specs.Session.{Handed, SessionModel as Standing, handed_with, session_behind}
+use Rattle.ckr_session.specs.Model.State.{disk_of}
+use Rattle.ckr_session.specs.Model.Session.{Handed, SessionModel as Standing, handed_with, session_behind}
 use Rattle.ckr_service.specs.Flows.{end_requests}
-use Rattle.ckr_service.specs.Lines.{telling}
-use Rattle.ckr_service.specs.Service.{Serves, HaltsSo, HaltsTelling, ServesTelling, seen, staffed_of}
-use Rattle.ckr_service.specs.Stops.{Stopped}
-use Rattle.ckr_service.specs.Sessions.{standing_of}
+use Rattle.ckr_session.specs.Lines.{telling}
+use Rattle.ckr_session.specs.Service.{Serves, HaltsSo, HaltsTelling, ServesTelling, seen, staffed_of}
+use Rattle.ckr_session.specs.Stops.{Stopped}
+use Rattle.ckr_session.specs.Sessions.{standing_of}
 use Rattle.ckr_service.proofs.Streams.End.{end_requests_of, end_requests_without}
-use Rattle.ckr_service.proofs.Service.Tellings.{serves_quiet_behind, waiting_with}
-use Rattle.ckr_service.proofs.Calls.Halts.{halts_before_them, halts_quiet_on, halts_then_on}
-use Rattle.ckr_service.proofs.Calls.Stops.{goes_then_on}
-use Rattle.ckr_service.proofs.Tellings.{tells_quiet}
+use Rattle.ckr_session.proofs.Service.Tellings.{serves_quiet_behind, waiting_with}
+use Rattle.ckr_session.proofs.Calls.Halts.{halts_before_them, halts_quiet_on, halts_then_on}
+use Rattle.ckr_session.proofs.Calls.Stops.{goes_then_on}
+use Rattle.ckr_session.proofs.Tellings.{tells_quiet}
 use Rattle.ckr_service.proofs.flow.Flow.end_requests.Goals as goal
 
 pub returns-then-is_empty-clause-serves : goal.returns-then-is_empty-clause-serves

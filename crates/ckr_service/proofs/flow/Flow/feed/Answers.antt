@@ -3,9 +3,9 @@ use Rattle.std.proofs.lemmas.List.{take_more}
 use Rattle.ckr_base.proofs.Results.{err-holds}
 use Rattle.ckr_service.proofs.Streams.Texts.{Carries-Breaks, Carries-trans, nothing_yet}
 use Rattle.ckr_service.specs.Flows.{Breaks, Carries}
-use Rattle.ckr_service.proofs.Calls.Stops.{events_behind, goes_nowhere, goes_then, stopped_behind}
+use Rattle.ckr_session.proofs.Calls.Stops.{events_behind, goes_nowhere, goes_then, stopped_behind}
 use Rattle.ckr_service.proofs.flow.Flow.feed.Goals as goal
-use Rattle.ckr_desk.specs.State.{disk_of}
+use Rattle.ckr_session.specs.Model.State.{disk_of}
 
 pub returns-in_err-byte-clause-err : goal.returns-in_err-byte-clause-err
 returns-in_err-byte-clause-err g c holds =

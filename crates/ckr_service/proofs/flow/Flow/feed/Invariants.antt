@@ -1,8 +1,8 @@
 use Rattle.std.proofs.Common.{◌≡◌, ◌≤◌, ◌+◌, length, take}
-use Rattle.ckr_desk.specs.Soundness.{IsTrusted}
-use Rattle.ckr_desk.specs.State.{IsOpen, disk_of}
-use Rattle.ckr_service.specs.Stops.{Goes}
-use Rattle.ckr_service.specs.Sessions.{HasFewCards}
+use Rattle.ckr_session.specs.Model.Soundness.{IsTrusted}
+use Rattle.ckr_session.specs.Model.State.{IsOpen, disk_of}
+use Rattle.ckr_session.specs.Stops.{Goes}
+use Rattle.ckr_session.specs.Sessions.{HasFewCards}
 use Rattle.ckr_service.specs.Flows.{Carries}
 use Rattle.ckr_service.proofs.flow.Flow.feed.Given as goal
 

@@ -1,0 +1,14 @@
+pub mod Model
+pub mod Staff
+pub mod Orders
+pub mod Calls
+pub mod Events
+pub mod Tallies
+pub mod Listings
+pub mod Texts
+pub mod Lines
+pub mod Service
+pub mod Turns
+pub mod Stops
+pub mod Counts
+pub mod Sessions
