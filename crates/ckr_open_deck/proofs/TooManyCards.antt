@@ -1,5 +1,5 @@
 -- A deck that has more cards than it may have is refused.
-use Rattle.std.proofs.Common.{◌≡◌, ℕ, ◌<◌, List, [], ◌∷◌, length, Some, None, Err, ap, sym, ◌∙◌, subst, arith}
+use Rattle.std.proofs.Common.{◌≡◌, ℕ, ◌<◌, ◌≤◌, List, [], ◌∷◌, length, Some, None, Err, ap, sym, ◌∙◌, subst, arith}
 use Rattle.ckr_cards.specs.declared.statement.Statement.{Statement}
 use Rattle.ckr_cards.specs.Card.{stored_cards, cards_in_bytes}
 use Rattle.ckr_cards.specs.Statement.{statements_of}
