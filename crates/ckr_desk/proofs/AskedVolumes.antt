@@ -23,7 +23,7 @@ use Rattle.ckr_desk.proofs.Calls.Requests.{if-err}
 use Rattle.ckr_desk.proofs.MachineRooms.{MayCome, asked-comes, asked-held, asked-takes, takes-none, takes_by}
 use Rattle.ckr_desk.proofs.Trust.Sameness.{IsAsBefore}
 use Rattle.ckr_desk.proofs.Turns.Answers.{unasked-stands}
-use Rattle.ckr_desk.specs.Attendance.{HasAttended, IsToMount, attempt_in, attended, mounted, untaken}
+use Rattle.ckr_desk.specs.Attendance.{HasAttended, IsToMount, attempt_in, attended, untaken}
 use Rattle.ckr_desk.specs.MachineRoom.{FitsUnits, NeedsNoQuestion, behind_attempt}
 use Rattle.ckr_desk.specs.Rewrite.{OpensSame}
 use Rattle.ckr_desk.specs.Soundness.{state_of}

@@ -1,6 +1,6 @@
 -- The state in an entry has the form of its program's states, where the keys and the records that it holds are as their types have them.
 use Rattle.std.proofs.Common.{◌≡◌, ◌≤◌, ◌<◌, ℕ, true, false, List, [], ◌∷◌, length, take, refl, ap, sym, ◌∙◌, subst, Option, Some, None, arith}
-use Rattle.std.specs.Prelude.{◌-◌, ◌^◌, ◌&&◌, IfSome, IsTrue, nat_le, nat_lt, sum_by, take_while}
+use Rattle.std.specs.Prelude.{◌-◌, ◌^◌, ◌&&◌, IfSome, IsTrue, nat_le, sum_by, take_while}
 use Rattle.std.specs.List.{last_or}
 use Rattle.std.specs.Option.{option_map}
 use Rattle.std.proofs.lemmas.Bool.{and_from, false≢true}

@@ -9,14 +9,14 @@ use Rattle.ckr_uses.specs.Uses.{is_shared, leaves}
 use Rattle.ckr_events.specs.declared.event.Made.{Made}
 use Rattle.ckr_jcl.specs.declared.deck.Dd.{Dd}
 use Rattle.ckr_library.specs.NameMaps.{Name, same_name, entry_at}
-use Rattle.ckr_meaning.specs.Allotments.{found, made, DdAllotment, opened_all}
+use Rattle.ckr_meaning.specs.Allotments.{found, DdAllotment, opened_all}
 use Rattle.ckr_meaning.specs.Dispositions.{disposed_all}
 use Rattle.ckr_meaning.specs.EffectiveJob.{Effective, OwnedStep, disposals_of, is_among, name_of, names_of, placed_in, stamp_of, step_at}
 use Rattle.ckr_meaning.specs.declared.place.Place.{Place}
 use Rattle.ckr_meaning.specs.declared.place.Place.TheVariants.{Before, Opened, Within}
 use Rattle.ckr_meaning.specs.JobRun.{walk_before}
 use Rattle.ckr_meaning.specs.StepRun.{StepStart, placed_at}
-use Rattle.ckr_points.specs.Tables.{after_dispositions, after_started, committed, made_tables}
+use Rattle.ckr_points.specs.Tables.{after_dispositions, after_started, committed}
 use Rattle.ckr_points.specs.Payload.{is_formed_step}
 use Rattle.ckr_points.specs.Office.{Leg, Office, passed_made}
 use Rattle.ckr_points.specs.Restart.{after_abnormal, after_passed_ended, place_of}

@@ -1,5 +1,5 @@
 -- The first entry of an identifier that a data set keeps, through a commit and where data sets are put back.
-use Rattle.std.proofs.Common.{◌≡◌, ◌≤◌, ℕ, ◌+◌, Bool, true, false, cond, ◌&&◌, List, [], ◌∷◌, filter, refl, ap, sym, ◌∙◌, Option, Some, None, arith}
+use Rattle.std.proofs.Common.{◌≡◌, ◌≤◌, ℕ, ◌+◌, Bool, true, false, cond, ◌&&◌, List, [], ◌∷◌, refl, ap, sym, ◌∙◌, Option, Some, None, arith}
 use Rattle.std.specs.Prelude.{IsTrue, find, nat_le}
 use Rattle.std.specs.Option.{option_map, option_map_or, is_some}
 use Rattle.ckr_base.proofs.Bools.{and-first, and-second}
