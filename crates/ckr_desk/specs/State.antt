@@ -8,7 +8,7 @@ use Rattle.ckr_desk_memory.specs.Invariant.{AreJobs}
 use Rattle.ckr_desk_memory.specs.OwnSteps.{AreLeft, HoldTheirOwn}
 use Rattle.ckr_desk_memory.specs.View.{JobsView}
 use Rattle.ckr_points.specs.Rows.{TablesModel}
-use Rattle.ckr_desk_store.specs.State.{StoreView}
+use Rattle.ckr_desk_store.specs.State.{IsSound, StoreView}
 use Rattle.ckr_queue.specs.Mounts.{MountTable, no_mounts}
 use Rattle.ckr_desk_turn.specs.declared.failed_run.FailedRun.{FailedRun}
 use Rattle.ckr_desk_turn.specs.Desk.{DeskModel}
@@ -67,9 +67,10 @@ pub record AreKept (layout : Layout) (jobs : JobsView) : Type 0 where
   pub left : AreLeft jobs
   pub numbered : AreNumbered 1 jobs.tables.desk.runs
 
--- so they are in the layout of the desk's disk
-abbrev pub IsKept : {D : Type 0} → DeskView D → Type 0
-IsKept desk = AreKept desk.store.layout desk.jobs
+-- so they are in the layout of the desk's disk, whose store is sound
+pub record IsKept {D : Type 0} (content : D → List ℕ) (may_leave : D → List ℕ → Type 0) (size : D → ℕ) (desk : DeskView D) : Type 0 where
+  pub jobs : AreKept desk.store.layout desk.jobs
+  pub store : IsSound content may_leave size desk.store
 
 -- the room of the book that an event needs: its gate, its length, its bytes and the next gate
 abbrev pub need_of : Event → ℕ

@@ -5,6 +5,7 @@ ghost use Rattle.ckr_desk_memory.specs.OwnSteps.{PlanCommits, PlanFollows, PlanL
 ghost use Rattle.ckr_desk_memory.specs.Plans.{HasDue, IsSpelledPlan, IsToldReply};
 ghost use Rattle.ckr_desk_turn.specs.declared.plan.Plan.TheVariants as Plans;
 ghost use Rattle.ckr_desk_turn.specs.declared.reply.Turn.{Turn as TurnOf};
+ghost use Rattle.ckr_desk_store.specs.State.{IsSound};
 ghost use Rattle.ckr_desk.specs.Attendance.{HasAttended, IsToMount, untaken};
 ghost use Rattle.ckr_desk.specs.Continuation.{PlanKnows, PlanStandsAt};
 ghost use Rattle.ckr_desk.specs.NoChange.{StaysBy};
@@ -43,7 +44,6 @@ impl<D: Disk, O: Operator> Desk<D, O> {
         ensures full { IfErr result (TellsNumbers (room_of self.old.store.book)) }
         ensures stays { IfErr result (StaysBy D.content D.may_leave D.faults self.old self.new) }
     {
-        let _layout = self.store.layout();
         if self.machine_room.holds(initiator) {
             return self.carry_out(plan);
         }
@@ -69,6 +69,7 @@ impl<D: Disk, O: Operator> Desk<D, O> {
     /// The same where the operator is asked for some of the volumes.
     fn mount(&mut self, initiator: u8, plan: Plan, wanted: VolumeList) -> Result<Reply, DeskError>
         requires is_open { self.old.store.fault ≡ None }
+        requires sound { IsSound D.content D.may_leave D.size self.old.store }
         requires above { 1 ≤ initiator }
         requires below { initiator ≤ self.old.store.layout.initiators }
         requires spelled { IsSpelledPlan plan }
@@ -89,7 +90,6 @@ impl<D: Disk, O: Operator> Desk<D, O> {
         ensures full { IfErr result (TellsNumbers (room_of self.old.store.book)) }
         ensures stays { IfErr result (StaysBy D.content D.may_leave D.faults self.old self.new) }
     {
-        let _layout = self.store.layout();
         match plan {
             Plan::Work { job } => self.mount_and_work(initiator, job, wanted),
             plan => self.mount_and_tell(initiator, plan, wanted),
@@ -104,6 +104,7 @@ impl<D: Disk, O: Operator> Desk<D, O> {
         wanted: VolumeList,
     ) -> Result<Reply, DeskError>
         requires is_open { self.old.store.fault ≡ None }
+        requires sound { IsSound D.content D.may_leave D.size self.old.store }
         requires above { 1 ≤ initiator }
         requires below { initiator ≤ self.old.store.layout.initiators }
         requires spelled { IsSpelledPlan plan }
@@ -125,7 +126,6 @@ impl<D: Disk, O: Operator> Desk<D, O> {
         ensures full { IfErr result (TellsNumbers (room_of self.old.store.book)) }
         ensures stays { IfErr result (StaysBy D.content D.may_leave D.faults self.old self.new) }
     {
-        let _layout = self.store.layout();
         let Some(run) = run_wanting(&plan) else {
             unreachable!()
         };
@@ -168,7 +168,6 @@ impl<D: Disk, O: Operator> Desk<D, O> {
         ensures full { IfErr result (TellsNumbers (room_of self.old.store.book)) }
         ensures stays { IfErr result (StaysBy D.content D.may_leave D.faults self.old self.new) }
     {
-        let _layout = self.store.layout();
         let unit = self.work_out(run)?;
         let told = self.told_of(run, &unit);
         let prepared = self.memory_for(run, &told)?;

@@ -6,6 +6,7 @@ ghost use Rattle.ckr_desk_memory.specs.Plans.{HasDue, IsToldReply};
 ghost use Rattle.ckr_outside.specs.Disk.{EachSince};
 ghost use Rattle.ckr_desk_turn.specs.declared.plan.Plan.TheVariants as Plans;
 ghost use Rattle.ckr_desk_turn.specs.Turns.{MountedTurn};
+ghost use Rattle.ckr_desk_store.specs.State.{IsSound};
 ghost use Rattle.ckr_desk.specs.Calls.{HasSameJobs};
 ghost use Rattle.ckr_desk.specs.Checkpoint.{HasWrittenEntry, IsAttempt, IsAttemptWritten, IsLeftByEntry, IsMade, NotAttempted};
 ghost use Rattle.ckr_desk.specs.NoChange.{HasHalted, IsOfDisk, StaysBy};
@@ -48,7 +49,6 @@ impl<D: Disk, O: Operator> Desk<D, O> {
         ensures machine_room { self.new.machine_room ≡ self.old.machine_room }
         ensures cause { IfErr result (NotAttempted run self.old self.new) }
     {
-        let _layout = self.store.layout();
         let Some(on) = self.jobs.running_step(run) else {
             unreachable!()
         };
@@ -75,7 +75,6 @@ impl<D: Disk, O: Operator> Desk<D, O> {
         ensures cause { IfErr result (IsFault (D.faults self.old.store.disk) (D.faults self.new.store.disk)) }
         ensures halted { IfErr result (HasHalted D.faults self.new.store) }
     {
-        let _layout = self.store.layout();
         let Some(on) = self.jobs.running_step(run) else {
             unreachable!()
         };
@@ -106,7 +105,6 @@ impl<D: Disk, O: Operator> Desk<D, O> {
         ensures of_disk { IfErr result IsOfDisk }
         ensures halted { IfErr result (HasHalted D.faults self.new.store) }
     {
-        let _layout = self.store.layout();
         self.write_entry(run, &made)?;
         self.enter(&made.event, None, ready)?;
         Ok(reply)
@@ -116,6 +114,7 @@ impl<D: Disk, O: Operator> Desk<D, O> {
     /// synced, and then its event is kept: code 00. Where it doesn't, nothing is written, code 08, and the step goes on (IBM GC28-6708).
     pub(crate) fn checkpoint(&mut self, run: u32) -> Result<Reply, DeskError>
         requires is_open { self.old.store.fault ≡ None }
+        requires sound { IsSound D.content D.may_leave D.size self.old.store }
         requires due { HasDue self.old.jobs (Plans.Take run) }
         ensures turned { (turn : MountedTurn) (answer : AnswerOf) → IsPlanned D.told D.content D.may_leave self.old turn (Plans.Take run) → HasTurned D.told D.content D.may_leave D.moment D.left_since D.size turn answer self.old self.new result }
         ensures spelled { IfOk result IsToldReply }
@@ -128,7 +127,6 @@ impl<D: Disk, O: Operator> Desk<D, O> {
         ensures full { IfErr result (TellsNumbers (room_of self.old.store.book)) }
         ensures stays { IfErr result (StaysBy D.content D.may_leave D.faults self.old self.new) }
     {
-        let _layout = self.store.layout();
         let attempt = self.attempt(run)?;
         match attempt {
             Attempt::Unfit { reply } => {

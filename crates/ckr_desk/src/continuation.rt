@@ -20,6 +20,7 @@ ghost use Rattle.ckr_steps.specs.EntryRecords.{bytes_on};
 ghost use Rattle.ckr_steps.specs.Units.{program_of};
 ghost use Rattle.ckr_volumes.specs.Layouts.{StandsIn};
 ghost use Rattle.ckr_volumes.specs.Records.{record_at};
+ghost use Rattle.ckr_desk_store.specs.State.{IsSound};
 ghost use Rattle.ckr_desk.specs.Continuation.{GoesOnThere, IsEntryRule, IsPointFound, PlanKnows, continuation_by, continuation_in, denial_plan, entry_there, judged_entry, judged_plan, judged_point, judged_read, judged_there, program_in, there_of, there_under};
 ghost use Rattle.ckr_desk.specs.NoChange.{HaveStayed, IsUnchanged, StaysBy};
 ghost use Rattle.ckr_desk.specs.Records.{ReadingCause};
@@ -149,6 +150,7 @@ fn read_next<D: Disk>(
     requires place { place < set.now.space }
     ensures read { D.told → OnOk result (found.new.items ≡ found.old.items ++ record_at (D.content store.old.disk) store.old.layout set.now place) }
     ensures kept { OnOk result (store.new ≡ record store.old { disk = store.new.disk }) }
+    ensures sound { IsSound D.content D.may_leave D.size store.new }
     ensures only_reads { OnlyReads D.content D.may_leave D.moment D.left_since store.old.disk store.new.disk }
     ensures size { D.size store.new.disk ≡ D.size store.old.disk }
     ensures faults { D.faults store.old.disk ≤ D.faults store.new.disk }
@@ -168,10 +170,12 @@ fn read_entry<D: Disk>(
     kept: &Kept,
 ) -> Result<Vec<u8>, DeskError>
     requires is_open { store.old.fault ≡ None }
+    requires sound { IsSound D.content D.may_leave D.size store.old }
     requires stands { StandsIn store.old.layout set.now }
     requires places { IsTrue (ends_within set.now.space kept.now) }
     ensures read { D.told → IfOk result (λ found. found.items ≡ bytes_on (D.content store.old.disk) store.old.layout set.now kept.now.place kept.now.bytes) }
     ensures kept { OnOk result (store.new ≡ record store.old { disk = store.new.disk }) }
+    ensures sound { IsSound D.content D.may_leave D.size store.new }
     ensures only_reads { OnlyReads D.content D.may_leave D.moment D.left_since store.old.disk store.new.disk }
     ensures size { D.size store.new.disk ≡ D.size store.old.disk }
     ensures faults { D.faults store.old.disk ≤ D.faults store.new.disk }
@@ -245,10 +249,12 @@ fn judged_there<D: Disk>(
     program: Option<Kind>,
 ) -> Result<Result<StepPoint, Rule>, DeskError>
     requires is_open { store.old.fault ≡ None }
+    requires sound { IsSound D.content D.may_leave D.size store.old }
     requires stands { StandsIn store.old.layout (there_of there.now).set }
     ensures judged { D.told → IfOk result (λ found. found ≡ judged_there store.old.layout (D.content store.old.disk) run program (there_of there.now)) }
     ensures its { IfOk result (IsPointFound run program) }
     ensures kept { OnOk result (store.new ≡ record store.old { disk = store.new.disk }) }
+    ensures sound { IsSound D.content D.may_leave D.size store.new }
     ensures only_reads { OnlyReads D.content D.may_leave D.moment D.left_since store.old.disk store.new.disk }
     ensures size { D.size store.new.disk ≡ D.size store.old.disk }
     ensures faults { D.faults store.old.disk ≤ D.faults store.new.disk }
@@ -269,10 +275,12 @@ fn judged_point<D: Disk>(
     at: &Continuation,
 ) -> Result<Result<StepPoint, Rule>, DeskError>
     requires is_open { store.old.fault ≡ None }
+    requires sound { IsSound D.content D.may_leave D.size store.old }
     requires stand { EachEntry (λ (table : TableSet). StandsIn store.old.layout table.set) tables.now.desk.sets }
     ensures judged { D.told → IfOk result (λ found. found ≡ judged_point store.old.layout tables.now.desk (D.content store.old.disk) at.now) }
     ensures its { IfOk result (IsPointFound at.now.job (program_in tables.now.desk at.now.earlier at.now.step)) }
     ensures kept { OnOk result (store.new ≡ record store.old { disk = store.new.disk }) }
+    ensures sound { IsSound D.content D.may_leave D.size store.new }
     ensures only_reads { OnlyReads D.content D.may_leave D.moment D.left_since store.old.disk store.new.disk }
     ensures size { D.size store.new.disk ≡ D.size store.old.disk }
     ensures faults { D.faults store.old.disk ≤ D.faults store.new.disk }
@@ -345,7 +353,6 @@ impl<D: Disk, O: Operator> Desk<D, O> {
         ensures takes { IfErr result (λ _. NeedsRoom plan) }
         ensures stays { IfErr result (StaysBy D.content D.may_leave D.faults self.old self.new) }
     {
-        let _layout = self.store.layout();
         let Some(at) = continuation_in(&plan) else {
             return Ok(plan);
         };

@@ -14,6 +14,7 @@ ghost use Rattle.ckr_desk_refines.specs.Moves.{HasSameRecords};
 ghost use Rattle.ckr_desk_store.specs.OpenImages.{event_records};
 ghost use Rattle.ckr_points_tables.specs.Invariant.{MaySubmit};
 ghost use Rattle.ckr_points_tables.specs.View.{line_of, seen_by};
+ghost use Rattle.ckr_desk_store.specs.State.{IsSound};
 ghost use Rattle.ckr_desk.specs.Calls.{HasGoneOn, IsLeftBy, NotEntered, NotKept, may_follow};
 ghost use Rattle.ckr_desk.specs.Preparation.{IsReady};
 ghost use Rattle.ckr_desk.specs.Soundness.{IsTrusted, KeepsWithin};
@@ -53,7 +54,7 @@ impl<D: Disk, O: Operator> Model for Desk<D, O> {
 
     ghost view = { λ s. record { store = s.store; jobs = s.jobs; machine_room = s.machine_room } };
 
-    ghost invariant = { λ s. IsKept (record { store = s.store; jobs = s.jobs; machine_room = s.machine_room }) };
+    ghost invariant = { λ s. IsKept D.content D.may_leave D.size (record { store = s.store; jobs = s.jobs; machine_room = s.machine_room }) };
 }
 
 impl<D: Disk, O: Operator> Desk<D, O> {
@@ -86,7 +87,6 @@ impl<D: Disk, O: Operator> Desk<D, O> {
         ensures disk { result ≡ disk_of self }
         ensures events { IsOpen self → (image : List ℕ) → D.may_leave result image → event_records (layout_of self) image ≡ event_records (layout_of self) (D.content result) }
     {
-        let _layout = self.store.layout();
         let Desk { store, .. } = self;
         store.into_disk()
     }
@@ -125,11 +125,11 @@ impl<D: Disk, O: Operator> Desk<D, O> {
         ensures left { EachSince D.moment D.left_since self.old.store.disk self.new.store.disk (IsLeftBy D.content D.may_leave D.size event.now (option_map rc_value deck) self.old) }
         ensures size { D.size self.new.store.disk ≡ D.size self.old.store.disk }
         ensures faults { D.faults self.old.store.disk ≤ D.faults self.new.store.disk }
+        ensures sound { IsSound D.content D.may_leave D.size self.new.store }
         ensures layout { self.new.store.layout ≡ self.old.store.layout }
         ensures machine_room { self.new.machine_room ≡ self.old.machine_room }
         ensures cause { IfErr result (NotEntered D.faults self.old self.new) }
     {
-        let _layout = self.store.layout();
         let Ready { prepared } = ready;
         self.store.sync()?;
         let (front, rest) = self.event_bytes.of(event);
@@ -166,7 +166,6 @@ impl<D: Disk, O: Operator> Desk<D, O> {
         ensures stopped { IfSome self.old.store.fault (λ fault. result ≡ Err (DeskError.Stopped fault)) }
         ensures cause { IfErr result (NotKept D.faults event.now deck self.old self.new) }
     {
-        let _layout = self.store.layout();
         if let Some(fault) = self.store.fault() {
             return Err(DeskError::Stopped { fault });
         }

@@ -4,6 +4,7 @@ ghost use Rattle.ckr_book.specs.Book.{room_of};
 ghost use Rattle.ckr_console.specs.Answering.{restart_answer};
 ghost use Rattle.ckr_desk_memory.specs.OwnSteps.{PlanCommits, PlanFollows, PlanLeaves};
 ghost use Rattle.ckr_desk_memory.specs.Plans.{HasDue, IsSpelledPlan, IsToldReply};
+ghost use Rattle.ckr_desk_store.specs.State.{IsSound};
 ghost use Rattle.ckr_desk.specs.declared.error.DeskError.TheVariants.{NoMemory};
 ghost use Rattle.ckr_desk_refines.specs.Moves.{event_in};
 ghost use Rattle.ckr_desk_turn.specs.Inquiries.{decide, is_ask};
@@ -52,7 +53,6 @@ impl<D: Disk, O: Operator> Desk<D, O> {
         ensures machine_room { self.new.machine_room ≡ self.old.machine_room }
         ensures cause { IfErr result (LacksMemory self.old self.new) }
     {
-        let _layout = self.store.layout();
         if !self.may_tell(plan) {
             return Err(DeskError::NoMemory);
         }
@@ -109,6 +109,7 @@ impl<D: Disk, O: Operator> Desk<D, O> {
         prepared: Prepared,
     ) -> Result<Reply, DeskError>
         requires is_open { self.old.store.fault ≡ None }
+        requires sound { IsSound D.content D.may_leave D.size self.old.store }
         requires telling { IsTellingPlan plan }
         requires spelled { IsSpelledPlan plan }
         requires prepared { IsPreparedToSettle self.old.jobs plan prepared }
@@ -132,7 +133,6 @@ impl<D: Disk, O: Operator> Desk<D, O> {
         ensures full { IfErr result (TellsNumbers (room_of self.old.store.book)) }
         ensures stays { IfErr result (StaysBy D.content D.may_leave D.faults self.old self.new) }
     {
-        let _layout = self.store.layout();
         let (plan, ready) = self.settle_with(plan, prepared)?;
         self.go_on(plan, ready)
     }
@@ -146,6 +146,7 @@ impl<D: Disk, O: Operator> Desk<D, O> {
         prepared: Prepared,
     ) -> Result<Reply, DeskError>
         requires is_open { self.old.store.fault ≡ None }
+        requires sound { IsSound D.content D.may_leave D.size self.old.store }
         requires unit { IsWorkedOut D.told D.content run self.old unit }
         requires told { IsToldByUnit run self.old unit told }
         requires prepared { IsPreparedToSettle self.old.jobs told prepared }
@@ -164,7 +165,6 @@ impl<D: Disk, O: Operator> Desk<D, O> {
         ensures full { IfErr result (TellsNumbers (room_of self.old.store.book)) }
         ensures stays { IfErr result (StaysBy D.content D.may_leave D.faults self.old self.new) }
     {
-        let _layout = self.store.layout();
         let (plan, ready) = self.settle_with(told, prepared)?;
         self.work_on(run, Ahead { unit, plan, ready })
     }
@@ -175,7 +175,6 @@ impl<D: Disk, O: Operator> Desk<D, O> {
         ensures told { IsToldByUnit run self.now unit.now result }
         ensures spelled { IsSpelledPlan result }
     {
-        let _layout = self.store.layout();
         let Some(on) = self.jobs.running_step(run) else {
             unreachable!()
         };
@@ -206,7 +205,6 @@ impl<D: Disk, O: Operator> Desk<D, O> {
         ensures full { IfErr result (TellsNumbers (room_of self.old.store.book)) }
         ensures stays { IfErr result (StaysBy D.content D.may_leave D.faults self.old self.new) }
     {
-        let _layout = self.store.layout();
         let plan = self.jobs.plan_by(self.store.layout(), taking, plan);
         self.carry_out_with(plan, Prepared::none())
     }

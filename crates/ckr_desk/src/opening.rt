@@ -14,6 +14,7 @@ ghost use Rattle.ckr_desk_refines.specs.RewriteRecord.{last_event};
 ghost use Rattle.ckr_desk_store.specs.OpenImages.{event_records};
 ghost use Rattle.ckr_volumes.specs.Header.{header_of, IsHeader};
 ghost use Rattle.ckr_volumes.specs.Layouts.{is_laid_out};
+ghost use Rattle.ckr_desk_store.specs.State.{IsSound};
 ghost use Rattle.ckr_desk.specs.Entries.{ArePointsRead};
 ghost use Rattle.ckr_desk.specs.Opening.{by_book, by_entries, opening_of};
 ghost use Rattle.ckr_desk.specs.Calls.{HasSameJobs};
@@ -240,6 +241,7 @@ impl<D: Disk, O: Operator> Desk<D, O> {
         ensures running { IfOk result (λ found. found.desk.jobs.running ≡ []) }
         ensures machine_room { IfOk result (λ found. found.desk.machine_room ≡ room_at_first found.desk.store.layout (option_map O.answering operator)) }
         ensures is_open { IfOk result (λ found. found.desk.store.fault ≡ None) }
+        ensures sound { IfOk result (λ found. IsSound D.content D.may_leave D.size found.desk.store) }
         ensures settled { IfOk result (λ found. Only (D.content found.desk.store.disk) (D.may_leave found.desk.store.disk)) }
         ensures synced { IfOk result (λ found. FromSync D.content D.may_leave D.moment D.left_since disk found.desk.store.disk (λ image. image ≡ D.content disk)) }
         ensures only_reads { IfOk result (λ found. OnlyReads D.content D.may_leave D.moment D.left_since disk found.desk.store.disk) }
@@ -314,6 +316,7 @@ impl<D: Disk, O: Operator> Desk<D, O> {
     /// The record that the last event tells of is written again, for good, if the tables have it.
     fn write_again(&mut self, last: &Option<Event>) -> Result<(), OpenError>
         requires is_open { self.old.store.fault ≡ None }
+        requires sound { IsSound D.content D.may_leave D.size self.old.store }
         requires settled { Only (D.content self.old.store.disk) (D.may_leave self.old.store.disk) }
         ensures written { D.told → OnOk result (IsWrittenAgain self.old.store.layout self.old.jobs.tables.desk last.now (D.content self.old.store.disk) (D.content self.new.store.disk)) }
         ensures settled { OnOk result (Only (D.content self.new.store.disk) (D.may_leave self.new.store.disk)) }
@@ -322,11 +325,11 @@ impl<D: Disk, O: Operator> Desk<D, O> {
         ensures jobs { HasSameJobs self.old self.new }
         ensures machine_room { self.new.machine_room ≡ self.old.machine_room }
         ensures kept { OnOk result (self.new.store ≡ record self.old.store { disk = self.new.store.disk }) }
+        ensures sound { OnOk result (IsSound D.content D.may_leave D.size self.new.store) }
         ensures size { D.size self.new.store.disk ≡ D.size self.old.store.disk }
         ensures faults { D.faults self.old.store.disk ≤ D.faults self.new.store.disk }
         ensures cause { IfErr result (HasFailedAgain (D.faults self.old.store.disk) (D.faults self.new.store.disk)) }
     {
-        let _layout = self.store.layout();
         let Some(event) = last else {
             return Ok(());
         };
@@ -374,10 +377,7 @@ impl<D: Disk, O: Operator> Desk<D, O> {
     {
         let Read { mut desk, last } = Desk::read_on(alloc, disk, operator)?;
         match desk.write_again(&last) {
-            Ok(()) => {
-                let _layout = desk.store.layout();
-                Ok(desk)
-            }
+            Ok(()) => Ok(desk),
             Err(error) => Err(Opening {
                 error,
                 disk: desk.close(),

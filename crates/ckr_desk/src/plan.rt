@@ -7,6 +7,7 @@ ghost use Rattle.ckr_desk_memory.specs.Plans.{HasDue, IsSpelledPlan, IsToldReply
 ghost use Rattle.ckr_outside.specs.Disk.{EachSince};
 ghost use Rattle.ckr_desk_refines.specs.Moves.{event_in, reply_in};
 ghost use Rattle.ckr_desk_refines.specs.Unit.{HasPassed};
+ghost use Rattle.ckr_desk_store.specs.State.{IsSound};
 ghost use Rattle.ckr_desk.specs.Requests.{MayFail, TellsNumbers};
 ghost use Rattle.ckr_desk.specs.Preparation.{IsReadyFor};
 ghost use Rattle.ckr_desk.specs.NoChange.{HasHalted, StaysBy};
@@ -46,7 +47,6 @@ impl<D: Disk, O: Operator> Desk<D, O> {
         ensures cause { IfErr result (NotBehind D.faults plan self.old self.new) }
         ensures halted { IfErr result (HasHalted D.faults self.new.store) }
     {
-        let _layout = self.store.layout();
         match plan {
             Plan::Rest(reply) => Ok(reply),
             Plan::Tell { reply, event } => {
@@ -79,6 +79,7 @@ impl<D: Disk, O: Operator> Desk<D, O> {
     /// point is known at which a run goes on that is selected to continue an earlier one.
     pub(crate) fn carry_out(&mut self, plan: Plan) -> Result<Reply, DeskError>
         requires is_open { self.old.store.fault ≡ None }
+        requires sound { IsSound D.content D.may_leave D.size self.old.store }
         requires spelled { IsSpelledPlan plan }
         requires knows { PlanKnows self.old.jobs.tables.desk self.old.jobs.points plan }
         requires follows { PlanFollows self.old.store.layout self.old.jobs.tables.desk plan }
@@ -99,7 +100,6 @@ impl<D: Disk, O: Operator> Desk<D, O> {
         ensures full { IfErr result (TellsNumbers (room_of self.old.store.book)) }
         ensures stays { IfErr result (StaysBy D.content D.may_leave D.faults self.old self.new) }
     {
-        let _layout = self.store.layout();
         match plan {
             Plan::Work { job } => self.work(job),
             Plan::Take { job } => self.checkpoint(job),

@@ -48,7 +48,6 @@ impl<D: Disk, O: Operator> Desk<D, O> {
         ensures machine_room { self.new.machine_room ≡ self.old.machine_room }
         ensures cause { IfErr result (NotReady event.now self.old self.new) }
     {
-        let _layout = self.store.layout();
         if !may_count(self.jobs.tables(), event) {
             return Err(DeskError::NoMemory);
         }

@@ -4,6 +4,7 @@ ghost use Rattle.ckr_outside.specs.Disk.{OnlyReads};
 ghost use Rattle.ckr_volumes.specs.Records.{record_at, records_on};
 ghost use Rattle.ckr_volumes.specs.Layouts.{StandsIn};
 ghost use Rattle.ckr_desk_refines.specs.Listing.{records_of};
+ghost use Rattle.ckr_desk_store.specs.State.{IsSound};
 ghost use Rattle.ckr_desk.specs.CallOutcomes.{HasComeTo, KeepsDesk};
 ghost use Rattle.ckr_desk.specs.Records.{ReadingCause};
 ghost use Rattle.ckr_desk.specs.Requests.{TellsFull};
@@ -31,6 +32,7 @@ fn read_next<D: Disk>(
     requires place { place < set.now.space }
     ensures read { D.told → OnOk result (found.new ≡ found.old ++ record_at (D.content store.old.disk) store.old.layout set.now place ∷ []) }
     ensures kept { OnOk result (store.new ≡ record store.old { disk = store.new.disk }) }
+    ensures sound { IsSound D.content D.may_leave D.size store.new }
     ensures only_reads { OnlyReads D.content D.may_leave D.moment D.left_since store.old.disk store.new.disk }
     ensures size { D.size store.new.disk ≡ D.size store.old.disk }
     ensures faults { D.faults store.old.disk ≤ D.faults store.new.disk }
@@ -48,9 +50,11 @@ fn read_all<D: Disk>(
     set: &DataSet,
 ) -> Result<Records, DeskError>
     requires is_open { store.old.fault ≡ None }
+    requires sound { IsSound D.content D.may_leave D.size store.old }
     requires stands { StandsIn store.old.layout set.now }
     ensures read { D.told → IfOk result (λ found. found ≡ records_on (D.content store.old.disk) store.old.layout set.now set.now.length) }
     ensures kept { OnOk result (store.new ≡ record store.old { disk = store.new.disk }) }
+    ensures sound { IsSound D.content D.may_leave D.size store.new }
     ensures only_reads { OnlyReads D.content D.may_leave D.moment D.left_since store.old.disk store.new.disk }
     ensures size { D.size store.new.disk ≡ D.size store.old.disk }
     ensures faults { D.faults store.old.disk ≤ D.faults store.new.disk }
@@ -80,7 +84,6 @@ impl<D: Disk, O: Operator> Desk<D, O> {
         // A stop at any moment leaves a sound image with the same events.
         ensures kept { IsOpen self.old → IsTrusted D.told D.content D.may_leave self.old → KeepsWithin D.content D.moment D.left_since D.size self.old self.new [] }
     {
-        let _layout = self.store.layout();
         if let Some(fault) = self.store.fault() {
             return Err(DeskError::Stopped { fault });
         }

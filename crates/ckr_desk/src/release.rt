@@ -3,6 +3,7 @@ ghost use Rattle.std.specs.Prelude.{◌≡◌, ◌≤◌, ◌++◌, Err, IfErr, 
 ghost use Rattle.ckr_outside.specs.Disk.{EachSince};
 ghost use Rattle.ckr_desk_refines.specs.Moves.{HasSameRecords};
 ghost use Rattle.ckr_desk_store.specs.OpenImages.{event_records};
+ghost use Rattle.ckr_desk_store.specs.State.{IsSound};
 ghost use Rattle.ckr_desk.specs.CallOutcomes.{HasComeTo, KeepsDesk};
 ghost use Rattle.ckr_desk.specs.Calls.{HasDone, IsLeftByCall, IsSettledBehind, NotDone, with_event};
 ghost use Rattle.ckr_desk.specs.Requests.{TellsFull, behind_call, came_by, event_in, spelled};
@@ -36,7 +37,6 @@ impl<D: Disk, O: Operator> Desk<D, O> {
         ensures kept { IsOpen self.old → IsTrusted D.told D.content D.may_leave self.old
             → KeepsWithin D.content D.moment D.left_since D.size self.old self.new (came_by result (spelled (event_in (release_call (tables_in_memory self.old) job)))) }
     {
-        let _layout = self.store.layout();
         self.end_hold(job)
     }
 
@@ -52,6 +52,7 @@ impl<D: Disk, O: Operator> Desk<D, O> {
         ensures settled { OnOk result (IsSettledBehind D.content D.may_leave (event_in (release_call self.old.jobs.tables.desk job)) self.new) }
         ensures left { self.old.store.fault ≡ None → EachSince D.moment D.left_since self.old.store.disk self.new.store.disk (IsLeftByCall D.content D.may_leave D.size (release_call self.old.jobs.tables.desk job) self.old) }
         ensures layout { self.new.store.layout ≡ self.old.store.layout }
+        ensures sound { IsSound D.content D.may_leave D.size self.old.store }
         ensures size { D.size self.new.store.disk ≡ D.size self.old.store.disk }
         ensures faults { D.faults self.old.store.disk ≤ D.faults self.new.store.disk }
         ensures machine_room { self.new.machine_room ≡ self.old.machine_room }

@@ -3,6 +3,7 @@ ghost use Rattle.std.specs.Prelude.{◌≡◌, ◌≤◌, IfErr, OnOk, None};
 ghost use Rattle.ckr_desk_memory.specs.Rewrite.{HasRecordPlace};
 ghost use Rattle.ckr_outside.specs.Disk.{EachSince, Only};
 ghost use Rattle.ckr_desk_store.specs.OpenImages.{event_records};
+ghost use Rattle.ckr_desk_store.specs.State.{IsSound};
 ghost use Rattle.ckr_desk.specs.Calls.{HasSameJobs};
 ghost use Rattle.ckr_desk.specs.Rewrite.{IsFault, IsLackingBy, IsWrittenBy, LackAtMost};
 ghost use Rattle.ckr_desk.specs.NoChange.{HasHalted};
@@ -17,6 +18,7 @@ impl<D: Disk, O: Operator> Desk<D, O> {
     /// a stop may leave that record alone otherwise, until the next event is kept, which is told behind a sync.
     pub(crate) fn rewrite(&mut self, event: &Event) -> Result<(), DeskError>
         requires is_open { self.old.store.fault ≡ None }
+        requires sound { IsSound D.content D.may_leave D.size self.old.store }
         requires place { HasRecordPlace event.now self.old.jobs.tables.desk }
         ensures written { D.told → OnOk result (IsWrittenBy self.old.store.layout self.old.jobs.tables.desk event.now (D.content self.old.store.disk) (D.content self.new.store.disk)) }
         ensures pending { Only (D.content self.old.store.disk) (D.may_leave self.old.store.disk)
@@ -33,7 +35,6 @@ impl<D: Disk, O: Operator> Desk<D, O> {
         ensures cause { IfErr result (IsFault (D.faults self.old.store.disk) (D.faults self.new.store.disk)) }
         ensures halted { IfErr result (HasHalted D.faults self.new.store) }
     {
-        let _layout = self.store.layout();
         let Event::Rewritten {
             job,
             place,
@@ -56,6 +57,7 @@ impl<D: Disk, O: Operator> Desk<D, O> {
     /// The same for good: the disk is synced behind it.
     pub(crate) fn rewrite_for_good(&mut self, event: &Event) -> Result<(), DeskError>
         requires is_open { self.old.store.fault ≡ None }
+        requires sound { IsSound D.content D.may_leave D.size self.old.store }
         requires place { HasRecordPlace event.now self.old.jobs.tables.desk }
         ensures written { D.told → OnOk result (IsWrittenBy self.old.store.layout self.old.jobs.tables.desk event.now (D.content self.old.store.disk) (D.content self.new.store.disk)) }
         ensures settled { Only (D.content self.old.store.disk) (D.may_leave self.old.store.disk) → OnOk result (Only (D.content self.new.store.disk) (D.may_leave self.new.store.disk)) }
@@ -65,13 +67,13 @@ impl<D: Disk, O: Operator> Desk<D, O> {
         ensures jobs { HasSameJobs self.old self.new }
         ensures machine_room { self.new.machine_room ≡ self.old.machine_room }
         ensures kept { OnOk result (self.new.store ≡ record self.old.store { disk = self.new.store.disk }) }
+        ensures sound { OnOk result (IsSound D.content D.may_leave D.size self.new.store) }
         ensures layout { self.new.store.layout ≡ self.old.store.layout }
         ensures size { D.size self.new.store.disk ≡ D.size self.old.store.disk }
         ensures faults { D.faults self.old.store.disk ≤ D.faults self.new.store.disk }
         ensures cause { IfErr result (IsFault (D.faults self.old.store.disk) (D.faults self.new.store.disk)) }
         ensures halted { IfErr result (HasHalted D.faults self.new.store) }
     {
-        let _layout = self.store.layout();
         self.rewrite(event)?;
         self.store.sync()?;
         Ok(())

@@ -8,6 +8,7 @@ ghost use Rattle.ckr_desk_turn.specs.Cards.{kept_of_stored};
 ghost use Rattle.ckr_desk_store.specs.OpenImages.{event_records};
 ghost use Rattle.ckr_desk_turn.specs.Submissions.{submission_of};
 ghost use Rattle.ckr_desk_turn.specs.declared.submit.Submission.TheVariants as Decks;
+ghost use Rattle.ckr_desk_store.specs.State.{IsSound};
 ghost use Rattle.ckr_desk.specs.CallOutcomes.{HasComeTo, KeepsDesk};
 ghost use Rattle.ckr_desk.specs.Requests.{TellsFull, behind_call, came_by, event_in, spelled};
 ghost use Rattle.ckr_desk.specs.Soundness.{IsTrusted, KeepsWithin, state_of};
@@ -53,7 +54,6 @@ impl<D: Disk, O: Operator> Desk<D, O> {
         ensures machine_room { self.new.machine_room ≡ self.old.machine_room }
         ensures cause { IfErr result (NotKept D.faults (Events.Submitted number (kept_of_stored cards.now)) (Some job) self.old self.new) }
     {
-        let _layout = self.store.layout();
         let event = submitted_event(self.alloc, number, cards)?;
         self.tell(&event, Some(job))
     }
@@ -102,6 +102,7 @@ impl<D: Disk, O: Operator> Desk<D, O> {
         ensures settled { OnOk result (IsSettledBehind D.content D.may_leave (event_in (submit_call self.old.jobs.tables.desk cards.now)) self.new) }
         ensures left { self.old.store.fault ≡ None → EachSince D.moment D.left_since self.old.store.disk self.new.store.disk (IsLeftByCall D.content D.may_leave D.size (submit_call self.old.jobs.tables.desk cards.now) self.old) }
         ensures layout { self.new.store.layout ≡ self.old.store.layout }
+        ensures sound { IsSound D.content D.may_leave D.size self.old.store }
         ensures size { D.size self.new.store.disk ≡ D.size self.old.store.disk }
         ensures faults { D.faults self.old.store.disk ≤ D.faults self.new.store.disk }
         ensures machine_room { self.new.machine_room ≡ self.old.machine_room }
@@ -109,7 +110,6 @@ impl<D: Disk, O: Operator> Desk<D, O> {
         ensures stopped { IfSome self.old.store.fault (λ fault. result ≡ Err (DeskError.Stopped fault)) }
         ensures cause { IfErr result (NotDone D.faults (submit_call self.old.jobs.tables.desk cards.now) self.old self.new) }
     {
-        let _layout = self.store.layout();
         if let Some(fault) = self.store.fault() {
             return Err(DeskError::Stopped { fault });
         }
@@ -147,7 +147,6 @@ impl<D: Disk, O: Operator> Desk<D, O> {
         ensures kept { IsOpen self.old → IsTrusted D.told D.content D.may_leave self.old
             → KeepsWithin D.content D.moment D.left_since D.size self.old self.new (came_by result (spelled (event_in (submit_call (tables_in_memory self.old) cards.now)))) }
     {
-        let _layout = self.store.layout();
         self.hand_in(cards)
     }
 }

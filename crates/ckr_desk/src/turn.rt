@@ -51,7 +51,6 @@ impl<D: Disk, O: Operator> Desk<D, O> {
         ensures kept { IsOpen self.old → IsTrusted D.told D.content D.may_leave self.old
             → KeepsWithin D.content D.moment D.left_since D.size self.old self.new (came_by result (spelled (attended_event (attended D.content self.old) turn))) }
     {
-        let _layout = self.store.layout();
         if let Some(fault) = self.store.fault() {
             return Err(DeskError::Stopped { fault });
         }
@@ -76,7 +75,6 @@ impl<D: Disk, O: Operator> Desk<D, O> {
         ensures full { IfErr result (TellsNumbers (room_of self.old.store.book)) }
         ensures stays { IfErr result (StaysBy D.content D.may_leave D.faults self.old self.new) }
     {
-        let _layout = self.store.layout();
         if self.machine_room.holds(turn.initiator) {
             if let Some(job) = self.jobs.unit_due(turn) {
                 return self.work(job);

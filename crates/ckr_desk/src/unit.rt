@@ -19,6 +19,7 @@ ghost use Rattle.ckr_desk_store.specs.OpenImages.{event_records, Opens};
 ghost use Rattle.ckr_desk_turn.specs.declared.plan.Plan.{Plan as PlanOf};
 ghost use Rattle.ckr_desk_turn.specs.declared.plan.Plan.TheVariants as Plans;
 ghost use Rattle.ckr_desk_turn.specs.Turns.{MountedTurn};
+ghost use Rattle.ckr_desk_store.specs.State.{IsSound};
 ghost use Rattle.ckr_desk.specs.Requests.{MayFail, TellsNumbers};
 ghost use Rattle.ckr_desk.specs.Calls.{HasSameJobs};
 ghost use Rattle.ckr_desk.specs.Preparation.{IsAhead, IsLookedAhead, IsWorkedOut, NotLooked, NotWorkedOut, asks_behind};
@@ -61,13 +62,13 @@ fn do_unit<D: Disk>(
     ensures any_moment { EachSince D.moment D.left_since store.old.disk store.new.disk
         (Opens store.old.layout (D.size store.old.disk) (λ records. records ≡ event_records store.old.layout (D.content store.old.disk))) }
     ensures kept { OnOk result (store.new ≡ record store.old { disk = store.new.disk }) }
+    ensures sound { IsSound D.content D.may_leave D.size store.new }
     ensures layout { store.new.layout ≡ store.old.layout }
     ensures size { D.size store.new.disk ≡ D.size store.old.disk }
     ensures faults { D.faults store.old.disk ≤ D.faults store.new.disk }
     ensures cause { IfErr result (IsFault (D.faults store.old.disk) (D.faults store.new.disk)) }
     ensures halted { IfErr result (HasHalted D.faults store.new) }
 {
-    let _layout = store.layout();
     Ok(store.work(&mut on.step, &mut on.sets, unit)?)
 }
 
@@ -89,6 +90,7 @@ impl<D: Disk, O: Operator> Desk<D, O> {
         requires due { HasDue self.old.jobs (Plans.Work run) }
         ensures unit { IfOk result (IsWorkedOut D.told D.content run self.new) }
         ensures kept { OnOk result (self.new.store ≡ record self.old.store { disk = self.new.store.disk }) }
+        ensures sound { IsSound D.content D.may_leave D.size self.new.store }
         ensures jobs { HasSameJobs self.old self.new }
         ensures machine_room { self.new.machine_room ≡ self.old.machine_room }
         ensures only_reads { OnlyReads D.content D.may_leave D.moment D.left_since self.old.store.disk self.new.store.disk }
@@ -99,7 +101,6 @@ impl<D: Disk, O: Operator> Desk<D, O> {
         ensures faults { D.faults self.old.store.disk ≤ D.faults self.new.store.disk }
         ensures cause { IfErr result (NotWorkedOut D.faults self.old self.new) }
     {
-        let _layout = self.store.layout();
         let Some(on) = self.jobs.running_step(run) else {
             unreachable!()
         };
@@ -122,7 +123,6 @@ impl<D: Disk, O: Operator> Desk<D, O> {
         ensures mounts { self.new.machine_room.mounts ≡ self.old.machine_room.mounts }
         ensures cause { IfErr result (NotLooked D.told D.content run (restart_answer self.old.machine_room.operator) self.old self.new) }
     {
-        let _layout = self.store.layout();
         let Some(on) = self.jobs.running_step(run) else {
             unreachable!()
         };
@@ -151,7 +151,6 @@ impl<D: Disk, O: Operator> Desk<D, O> {
         ensures cause { IfErr result (IsFault (D.faults self.old.store.disk) (D.faults self.new.store.disk)) }
         ensures halted { IfErr result (HasHalted D.faults self.new.store) }
     {
-        let _layout = self.store.layout();
         let Some(mut on) = self.jobs.take_step(run) else {
             unreachable!()
         };
@@ -179,7 +178,6 @@ impl<D: Disk, O: Operator> Desk<D, O> {
         ensures of_disk { IfErr result IsOfDisk }
         ensures halted { IfErr result (HasHalted D.faults self.new.store) }
     {
-        let _layout = self.store.layout();
         let Ahead { unit, plan, ready } = ahead;
         self.done_unit(run, unit)?;
         match self.go_on(plan, ready) {
@@ -210,7 +208,6 @@ impl<D: Disk, O: Operator> Desk<D, O> {
         ensures of_disk { IfErr result IsOfDisk }
         ensures halted { IfErr result (HasHalted D.faults self.new.store) }
     {
-        let _layout = self.store.layout();
         let Some(on) = self.jobs.running_step(run) else {
             unreachable!()
         };
@@ -223,6 +220,7 @@ impl<D: Disk, O: Operator> Desk<D, O> {
     /// is done.
     fn tell_unit(&mut self, run: u32, unit: UnitAhead) -> Result<Reply, DeskError>
         requires is_open { self.old.store.fault ≡ None }
+        requires sound { IsSound D.content D.may_leave D.size self.old.store }
         requires unit { IsWorkedOut D.told D.content run self.old unit }
         requires tells { IsWent unit.worked → ⊥ }
         ensures turned { (turn : MountedTurn) → IsPlanned D.told D.content D.may_leave self.old turn (Plans.Work run)
@@ -239,7 +237,6 @@ impl<D: Disk, O: Operator> Desk<D, O> {
         ensures full { IfErr result (TellsNumbers (room_of self.old.store.book)) }
         ensures stays { IfErr result (StaysBy D.content D.may_leave D.faults self.old self.new) }
     {
-        let _layout = self.store.layout();
         let ahead = self.look(run, unit)?;
         self.work_on(run, ahead)
     }
@@ -263,7 +260,6 @@ impl<D: Disk, O: Operator> Desk<D, O> {
         ensures full { IfErr result (TellsNumbers (room_of self.old.store.book)) }
         ensures stays { IfErr result (StaysBy D.content D.may_leave D.faults self.old self.new) }
     {
-        let _layout = self.store.layout();
         let unit = self.work_out(run)?;
         if let Worked::Went { .. } = unit.worked {
             self.went(run, unit)

@@ -9,6 +9,7 @@ ghost use Rattle.ckr_steps.specs.Writes.{ChangesKeeping};
 ghost use Rattle.ckr_volumes.specs.Layouts.{StandsIn, disk_needed, is_laid_out};
 ghost use Rattle.ckr_desk_store.specs.Answers.{DiskCause};
 ghost use Rattle.ckr_desk_store.specs.OpenImages.{Opens, event_records};
+ghost use Rattle.ckr_desk_store.specs.State.{IsSound};
 
 use crate::{Store, StoreError};
 use ckr_library::DataSet;
@@ -68,6 +69,7 @@ impl<D: Disk> Store<D> {
         ensures events { D.told → event_records self.old.layout (D.content self.new.disk)
             ≡ event_records self.old.layout (D.content self.old.disk) }
         ensures kept { OnOk result (self.new ≡ record self.old { disk = self.new.disk }) }
+        ensures sound { IsSound D.content D.may_leave D.size self.new }
 
         // A stop at any moment leaves a disk that opens with the same events.
         ensures any_moment { self.old.fault ≡ None → EachSince D.moment D.left_since self.old.disk self.new.disk

@@ -52,12 +52,13 @@ impl<D: Disk> Store<D> {
         requires settled { Only (D.content disk) (D.may_leave disk) }
         requires says { D.told → header_of (take 512 (D.content disk)) (D.size disk) ≡ Ok layout }
         requires events { D.told → IsOpenOn (record { start = 512; size = layout.book; end = end }) (D.content disk) }
-        ensures { result ≡ record {
+        ensures value { result ≡ record {
           disk = disk;
           layout = layout;
           book = record { start = 512; size = layout.book; end = end };
           fault = None;
         } }
+        ensures sound { IsSound D.content D.may_leave D.size result }
     {
         let book = Book::ending_at(BOOK_AT, layout.book, end);
         Store {
@@ -110,6 +111,7 @@ impl<D: Disk> Store<D> {
             ≡ event_records self.old.layout (D.content self.old.disk) ++ (front.now ++ rest.now) ∷ []) }
         ensures settled { OnOk result (Only (D.content self.new.disk) (D.may_leave self.new.disk)) }
         ensures kept { OnOk result (self.new ≡ record self.old { disk = self.new.disk; book = self.new.book }) }
+        ensures sound { IsSound D.content D.may_leave D.size self.new }
         ensures place { SamePlace self.old.book self.new.book }
         ensures room { OnOk result (room_of self.new.book + (length (front.now ++ rest.now) + 5) ≡ room_of self.old.book) }
 
@@ -152,6 +154,7 @@ impl<D: Disk> Store<D> {
     pub fn sync(&mut self) -> Result<(), StoreError>
         ensures settled { OnOk result (Only (D.content self.new.disk) (D.may_leave self.new.disk)) }
         ensures kept { OnOk result (self.new ≡ record self.old { disk = self.new.disk }) }
+        ensures sound { IsSound D.content D.may_leave D.size self.new }
 
         // A stop at any moment leaves a disk that opens with the same events.
         ensures any_moment { self.old.fault ≡ None → EachSince D.moment D.left_since self.old.disk self.new.disk
@@ -197,6 +200,7 @@ impl<D: Disk> Store<D> {
             → slice_get (records_on (D.content self.old.disk) self.old.layout set.now n) place ≡ Some found) }
         ensures length { IfOk result (λ found. length found ≡ set.now.lrecl) }
         ensures kept { IfOk result (λ _. self.new ≡ record self.old { disk = self.new.disk }) }
+        ensures sound { IsSound D.content D.may_leave D.size self.new }
 
         // A stop at any moment leaves a disk that opens with the same events.
         ensures any_moment { self.old.fault ≡ None → EachSince D.moment D.left_since self.old.disk self.new.disk
@@ -242,6 +246,7 @@ impl<D: Disk> Store<D> {
         ensures events { D.told → event_records self.old.layout (D.content self.new.disk)
             ≡ event_records self.old.layout (D.content self.old.disk) }
         ensures kept { OnOk result (self.new ≡ record self.old { disk = self.new.disk }) }
+        ensures sound { IsSound D.content D.may_leave D.size self.new }
 
         // A stop at any moment leaves a disk that opens with the same events, and changes that record alone.
         ensures any_moment { self.old.fault ≡ None → EachSince D.moment D.left_since self.old.disk self.new.disk

@@ -9,6 +9,7 @@ ghost use Rattle.ckr_steps.specs.Units.{due_of};
 ghost use Rattle.ckr_steps.specs.Writes.{ChangesKeeping, grown};
 ghost use Rattle.ckr_desk_store.specs.Answers.{DiskCause};
 ghost use Rattle.ckr_desk_store.specs.OpenImages.{event_records, Opens};
+ghost use Rattle.ckr_desk_store.specs.State.{IsSound};
 
 use crate::Store;
 use crate::error::StoreError;
@@ -30,6 +31,7 @@ impl<D: Disk> Store<D> {
         ensures answer { D.told → IfOk result (λ ahead. ahead.worked ≡ worked_for sets.now step.now (heads_on (D.content self.old.disk) self.old.layout sets.now step.now)) }
         ensures ahead { IfOk result (HasWorkedOut D.told (D.content self.old.disk) self.old.layout step.now sets.now) }
         ensures kept { IfOk result (λ _. self.new ≡ record self.old { disk = self.new.disk }) }
+        ensures sound { IsSound D.content D.may_leave D.size self.new }
 
         // A stop at any moment leaves a disk that opens with the same events.
         ensures any_moment { self.old.fault ≡ None → EachSince D.moment D.left_since self.old.disk self.new.disk
@@ -83,6 +85,7 @@ impl<D: Disk> Store<D> {
         ensures events { D.told → event_records self.old.layout (D.content self.new.disk)
             ≡ event_records self.old.layout (D.content self.old.disk) }
         ensures kept { IfOk result (λ _. self.new ≡ record self.old { disk = self.new.disk }) }
+        ensures sound { IsSound D.content D.may_leave D.size self.new }
 
         // A stop at any moment leaves a disk that opens with the same events.
         ensures any_moment { self.old.fault ≡ None → EachSince D.moment D.left_since self.old.disk self.new.disk

@@ -10,6 +10,7 @@ loop-place-init g c =
     let store = c.args.store.now in
     record {
       read = λ told. c.new-found.ensures.items ∙ sym (pieces-none (d.content store.disk) store.layout c.args.set.now c.args.kept.now.place);
+      sound = c.requires.sound;
       kept = refl;
       only_reads = reads-nothing d.content d.may_leave d.moment d.left_since store.disk (λ image left. laws.only_now store.disk image left);
       size = refl;

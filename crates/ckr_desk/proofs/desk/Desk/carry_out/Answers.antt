@@ -25,7 +25,7 @@ use Rattle.ckr_desk.specs.Continuation.{PlanKnows, PlanStandsAt}
 use Rattle.ckr_desk.specs.Requests.{MayFail, TellsNumbers}
 use Rattle.ckr_desk.specs.Rewrite.{OpensSame}
 use Rattle.ckr_desk.specs.Soundness.{state_of}
-use Rattle.ckr_desk.specs.State.{DeskView, MachineRoomView, RoomyDesk}
+use Rattle.ckr_desk.specs.State.{MachineRoomView, RoomyDesk}
 use Rattle.ckr_desk.specs.Turn.{AnswerStands, AnswerStandsBy, asks, event_of_turn, reply_of}
 use Rattle.ckr_desk.specs.NoChange.{StaysBy}
 use Rattle.ckr_desk.specs.Units.{HasTurned, IsSettledPlan, IsPlanned}
@@ -88,9 +88,8 @@ returns-in_err-plan-in_default g c =
     let before = as-before d.content d.may_leave now mid d.told (same-unchanged d.content d.may_leave now mid c.settle.ensures.jobs store) in
     let sized = ap (λ (s : StoreView g.row.D.Denot). d.size s.disk) store in
     let laws = g.met.D.Disk g.world.𝓛 g.world.𝓜 g.world.𝓡 ((λ s x. x), (λ x. x), (λ x. x), λ x. x) in
-    let sound = subst (λ (s : DeskView g.row.D.Denot). IsSound d.content d.may_leave d.size s.store) c.self.view_is c.layout-layout.ensures.sound in
     let since = same-left d.moment d.left_since now.store mid.store (λ image. OpensSame d.content d.size now image × d.may_leave now.store.disk image) store
-    (now-left d.told d.content d.may_leave d.moment d.left_since d.size now sound c.requires.is_open (laws.only_now now.store.disk)) in
+    (now-left d.told d.content d.may_leave d.moment d.left_since d.size now c.requires.sound c.requires.is_open (laws.only_now now.store.disk)) in
     let error = c.in_err-plan-in_default.field-0.0 in
     let cause = c.in_err-plan-in_default.ensures.cause in
     let result = c.from_residual.result in
@@ -101,7 +100,7 @@ returns-in_err-plan-in_default g c =
           subst (HasTurned d.told d.content d.may_leave d.moment d.left_since d.size turn answer now mid) (sym is)
           (turned-not d.told d.content d.may_leave d.moment d.left_since d.size now mid before sized since turn answer p.trusted error
           (go-unsettled d.told d.content d.may_leave d.moment d.left_since d.size d.faults now p.trusted turn p.its answer plan mid error p.planned settled cause)
-          (unsettled-takes d.told d.content d.may_leave d.moment d.left_since d.size d.faults now p.trusted turn p.its answer plan mid error (book-short now.store.layout (d.size now.store.disk) sound.header) p.planned settled cause));
+          (unsettled-takes d.told d.content d.may_leave d.moment d.left_since d.size d.faults now p.trusted turn p.its answer plan mid error (book-short now.store.layout (d.size now.store.disk) c.requires.sound.header) p.planned settled cause));
       answered = λ turn p.
           subst (AnswerStands (asks (state_of d.content now) turn answer) now.machine_room mid.machine_room) (sym is)
           (subst (λ b. AnswerStandsBy b now.machine_room mid.machine_room error)
@@ -134,11 +133,10 @@ returns-in_ok-plan-in_default g c =
     let before = as-before d.content d.may_leave now mid d.told (same-unchanged d.content d.may_leave now mid c.settle.ensures.jobs store) in
     let sized = ap (λ (s : StoreView g.row.D.Denot). d.size s.disk) store in
     let laws = g.met.D.Disk g.world.𝓛 g.world.𝓜 g.world.𝓡 ((λ s x. x), (λ x. x), (λ x. x), λ x. x) in
-    let sound = subst (λ (s : DeskView g.row.D.Denot). IsSound d.content d.may_leave d.size s.store) c.self.view_is c.layout-layout.ensures.sound in
     let since = same-left d.moment d.left_since now.store mid.store (λ image. OpensSame d.content d.size now image × d.may_leave now.store.disk image) store
-    (now-left d.told d.content d.may_leave d.moment d.left_since d.size now sound c.requires.is_open (laws.only_now now.store.disk)) in
+    (now-left d.told d.content d.may_leave d.moment d.left_since d.size now c.requires.sound c.requires.is_open (laws.only_now now.store.disk)) in
     let new = c.go_on.new.self in
-    let sound_then = subst (λ (s : StoreView g.row.D.Denot). IsSound d.content d.may_leave d.size s) (sym store) sound in
+    let sound_then = subst (λ (s : StoreView g.row.D.Denot). IsSound d.content d.may_leave d.size s) (sym store) c.requires.sound in
     let opens = opens-so d.told d.content d.may_leave d.moment d.left_since d.size mid sound_then (ap (λ (s : StoreView g.row.D.Denot). s.fault) store ∙ c.requires.is_open) in
     let of_disk = if-err (go-of-disk d.faults mid new its) c.go_on.result c.go_on.ensures.cause in
     record {
@@ -186,8 +184,7 @@ returns-in-Pass g c =
     let new = c.pass.new.self in
     let store = c.pass.ensures.store in
     let laws = g.met.D.Disk g.world.𝓛 g.world.𝓜 g.world.𝓡 ((λ s x. x), (λ x. x), (λ x. x), λ x. x) in
-    let sound = subst (λ (s : DeskView g.row.D.Denot). IsSound d.content d.may_leave d.size s.store) c.self.view_is c.layout-layout.ensures.sound in
-    let since = now-left d.told d.content d.may_leave d.moment d.left_since d.size now sound c.requires.is_open (laws.only_now now.store.disk) in
+    let since = now-left d.told d.content d.may_leave d.moment d.left_since d.size now c.requires.sound c.requires.is_open (laws.only_now now.store.disk) in
     record {
       turned = λ turn p at.
           turned-past d.told d.content d.may_leave d.moment d.left_since d.size now turn (restart_answer now.machine_room.operator) c.in-Pass.job c.in-Pass.reply new.jobs new.machine_room c.pass.ensures.passed

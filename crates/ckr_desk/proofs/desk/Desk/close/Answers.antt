@@ -11,4 +11,4 @@ returns-clause-events g c is_open image =
     let desk = c.args.self in
     subst (λ disk. d.may_leave disk image → event_records (layout_of desk) image ≡ event_records (layout_of desk) (d.content disk)) (sym (c.into_disk.ensures ∙ ap (λ (w : DeskView _). disk_of w) c.self.view_is))
     (λ may. (opens_now d.told d.content d.may_leave d.moment d.left_since d.size desk.store
-    (subst (λ (w : DeskView _). IsSound d.content d.may_leave d.size w.store) c.self.view_is c.layout-layout.ensures.sound) is_open image may).list)
+    (subst (λ (w : DeskView _). IsSound d.content d.may_leave d.size w.store) c.self.view_is c.self.invariant.store) is_open image may).list)

@@ -26,7 +26,7 @@ use Rattle.ckr_desk.proofs.Units.Readiness.{commits-beside}
 use Rattle.ckr_desk.proofs.desk.Desk.done_unit.Goals as goal
 
 pub do_unit-requires-clause-runnable : goal.do_unit-requires-clause-runnable
-do_unit-requires-clause-runnable g c κs within = c.in-Some.ensures.runnable c.self.inside.store.layout c.self.invariant.are
+do_unit-requires-clause-runnable g c κs within = c.in-Some.ensures.runnable c.self.inside.store.layout c.self.invariant.jobs.are
 
 pub do_unit-requires-clause-unit : goal.do_unit-requires-clause-unit
 do_unit-requires-clause-unit g c κs within =
@@ -40,10 +40,14 @@ do_unit-requires-clause-unit g c κs within =
 pub invariant_of-self : goal.invariant_of-self
 invariant_of-self g c =
     let layout = c.self.inside.store.layout in
-    let kept = c.self.invariant in
-    subst (λ (l : Layout). AreKept l c.take_step.new.self) (sym c.do_unit.ensures.layout)
-    (kept-moved layout c.self.inside.jobs c.take_step.new.self (ap (λ (t : RoomyTables). t.desk) c.take_step.ensures.tables) c.take_step.ensures.failed
-    (c.take_step.ensures.jobs layout kept.are) (c.take_step.ensures.own kept.own) kept)
+    let kept = c.self.invariant.jobs in
+    record {
+      jobs =
+          subst (λ (l : Layout). AreKept l c.take_step.new.self) (sym c.do_unit.ensures.layout)
+          (kept-moved layout c.self.inside.jobs c.take_step.new.self (ap (λ (t : RoomyTables). t.desk) c.take_step.ensures.tables) c.take_step.ensures.failed
+          (c.take_step.ensures.jobs layout kept.are) (c.take_step.ensures.own kept.own) kept);
+      store = c.do_unit.ensures.sound;
+    }
 
 pub returns-in_err-do_unit-clause-left : goal.returns-in_err-do_unit-clause-left
 returns-in_err-do_unit-clause-left g c =
@@ -61,7 +65,7 @@ returns-in_err-do_unit-clause-left g c =
 pub invariant_of-self-2 : goal.invariant_of-self-2
 invariant_of-self-2 g c =
     let layout = c.self.inside.store.layout in
-    let kept = c.self.invariant in
+    let kept = c.self.invariant.jobs in
     let run = c.args.run in
     let on = step_seen c.in-Some.on in
     let moved = step_seen c.do_unit.new.on in
@@ -69,13 +73,17 @@ invariant_of-self-2 g c =
     let worked = c.in_ok-do_unit.ensures.worked in
     let found = sym c.take_step.ensures.step ∙ ap (option_map step_seen) c.in-Some.is in
     let its : moved.run ≡ run = c.do_unit.ensures.run ∙ equal-true on.run run (find-passes (is_of_run run) c.self.inside.jobs.running on found) in
-    let is : IsRunningOf c.self.inside.jobs.tables.desk moved =
-    running-unit c.self.inside.jobs.tables.desk on moved worked.heads c.in_ok-do_unit.field-0 kept.are.rows kept.numbered c.do_unit.ensures.run worked.done (c.in-Some.ensures.own_step kept.own) in
-    subst (λ (l : Layout). AreKept l c.put_step.new.self) (sym c.do_unit.ensures.layout)
-    (kept-moved layout c.self.inside.jobs c.put_step.new.self (ap (λ (t : RoomyTables). t.desk) c.put_step.ensures.tables ∙ desk) (c.put_step.ensures.failed ∙ c.take_step.ensures.failed)
-    (c.put_step.ensures.jobs layout (c.take_step.ensures.jobs layout kept.are) c.in_ok-do_unit.ensures.runnable)
-    (c.put_step.ensures.own (c.take_step.ensures.own kept.own) (subst (λ (t : TablesModel). IsRunningOf t moved) (sym desk) is)
-    (subst (λ n. AllByRecursion (IsOfOther n) c.take_step.new.self.running) (sym its) (c.take_step.ensures.others kept.own))) kept)
+    record {
+      jobs =
+          let is : IsRunningOf c.self.inside.jobs.tables.desk moved =
+          running-unit c.self.inside.jobs.tables.desk on moved worked.heads c.in_ok-do_unit.field-0 kept.are.rows kept.numbered c.do_unit.ensures.run worked.done (c.in-Some.ensures.own_step kept.own) in
+          subst (λ (l : Layout). AreKept l c.put_step.new.self) (sym c.do_unit.ensures.layout)
+          (kept-moved layout c.self.inside.jobs c.put_step.new.self (ap (λ (t : RoomyTables). t.desk) c.put_step.ensures.tables ∙ desk) (c.put_step.ensures.failed ∙ c.take_step.ensures.failed)
+          (c.put_step.ensures.jobs layout (c.take_step.ensures.jobs layout kept.are) c.in_ok-do_unit.ensures.runnable)
+          (c.put_step.ensures.own (c.take_step.ensures.own kept.own) (subst (λ (t : TablesModel). IsRunningOf t moved) (sym desk) is)
+          (subst (λ n. AllByRecursion (IsOfOther n) c.take_step.new.self.running) (sym its) (c.take_step.ensures.others kept.own))) kept);
+      store = c.do_unit.ensures.sound;
+    }
 
 pub returns-clause-commits : goal.returns-clause-commits
 returns-clause-commits g c =
@@ -94,7 +102,7 @@ returns-clause-commits g c =
     (subst (λ (running : List RunningStepView). PlanCommits tables running plan) (sym c.put_step.ensures.running)
     (commits-beside tables run plan (behind_unit on unit) moved c.take_step.new.self.running
     (subst (λ n. PlanIsOf n plan) (equal-true looked.of.on.run run (find-passes (is_of_run run) old.jobs.running looked.of.on looked.of.found)) looked.of_run)
-    c.do_unit.ensures.run c.in_ok-do_unit.ensures.lengths (c.take_step.ensures.others c.self.invariant.own)
+    c.do_unit.ensures.run c.in_ok-do_unit.ensures.lengths (c.take_step.ensures.others c.self.invariant.jobs.own)
     (subst (λ (its : RunningStepView). PlanCommits tables (behind_unit its unit ∷ []) plan) same looked.commits))))
 
 pub returns-clause-done : goal.returns-clause-done

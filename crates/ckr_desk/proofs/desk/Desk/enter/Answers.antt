@@ -30,7 +30,7 @@ returns-clause-records g c =
     let layout = c.self.inside.store.layout in
     rw (← c.self.view_is)
     (λ told set n stands within.
-    records-stay layout c.layout-layout.ensures.sound.laid (d.content c.sync.new.self.disk) (d.content c.append.new.self.disk)
+    records-stay layout c.self.invariant.store.laid (d.content c.sync.new.self.disk) (d.content c.append.new.self.disk)
     (subst (λ (l : Layout). SameOutside 512 l.book (d.content c.sync.new.self.disk) (d.content c.append.new.self.disk)) (ap (λ s. s.layout) c.in_ok-sync.ensures.kept) (c.append.ensures.changes.reads told))
     set n stands within
     ∙ ap (λ bytes. records_on bytes layout set n) c.sync.ensures.only_reads.same)
@@ -49,7 +49,7 @@ returns-in_err-append-clause-left g c =
     let mid = c.sync.new.self in
     rw (← c.self.view_is)
     (appended-store d.told d.content d.may_leave d.moment d.left_since d.size c.args.event.now (option_map rc_value c.args.deck) (record { store = old.store; jobs = old.jobs; machine_room = old.machine_room }) mid c.append.new.self
-    c.in_ok-sync.ensures.kept (and_from _ _ follows counts) c.layout-layout.ensures.sound.laid
+    c.in_ok-sync.ensures.kept (and_from _ _ follows counts) c.self.invariant.store.laid
     (c.sync.ensures.any_moment is_open) c.sync.ensures.only_reads c.sync.ensures.size c.in_ok-sync.ensures.settled
     (subst (λ bytes. EachSince d.moment d.left_since mid.disk c.append.new.self.disk (Opens mid.layout (d.size mid.disk) (IsBeforeOrAfter (event_records mid.layout (d.content mid.disk)) bytes))) c.of.ensures
     (c.append.ensures.any_moment (ap (λ s. s.fault) c.in_ok-sync.ensures.kept ∙ is_open))) c.append.ensures.changes)
@@ -64,20 +64,28 @@ returns-clause-left g c =
     let mid = c.sync.new.self in
     rw (← c.self.view_is)
     (appended-store d.told d.content d.may_leave d.moment d.left_since d.size c.args.event.now (option_map rc_value c.args.deck) (record { store = old.store; jobs = old.jobs; machine_room = old.machine_room }) mid c.append.new.self
-    c.in_ok-sync.ensures.kept (and_from _ _ follows counts) c.layout-layout.ensures.sound.laid
+    c.in_ok-sync.ensures.kept (and_from _ _ follows counts) c.self.invariant.store.laid
     (c.sync.ensures.any_moment is_open) c.sync.ensures.only_reads c.sync.ensures.size c.in_ok-sync.ensures.settled
     (subst (λ bytes. EachSince d.moment d.left_since mid.disk c.append.new.self.disk (Opens mid.layout (d.size mid.disk) (IsBeforeOrAfter (event_records mid.layout (d.content mid.disk)) bytes))) c.of.ensures
     (c.append.ensures.any_moment (ap (λ s. s.fault) c.in_ok-sync.ensures.kept ∙ is_open))) c.append.ensures.changes)
 
 pub invariant_of-self : goal.invariant_of-self
 invariant_of-self g c =
-    kept-stay c.self.inside.store.layout c.sync.new.self.layout c.self.inside.jobs c.self.inside.jobs
-    (failed-layout g.D.Disk.faults c.self.inside.store c.sync.new.self c.in_err-sync.field-0.0 c.in_err-sync.ensures.cause) refl refl refl refl c.self.invariant
+    record {
+      jobs =
+          kept-stay c.self.inside.store.layout c.sync.new.self.layout c.self.inside.jobs c.self.inside.jobs
+          (failed-layout g.D.Disk.faults c.self.inside.store c.sync.new.self c.in_err-sync.field-0.0 c.in_err-sync.ensures.cause) refl refl refl refl c.self.invariant.jobs;
+      store = c.sync.ensures.sound;
+    }
 
 pub invariant_of-self-in_err-append : goal.invariant_of-self-in_err-append
 invariant_of-self-in_err-append g c =
-    kept-stay c.self.inside.store.layout c.append.new.self.layout c.self.inside.jobs c.self.inside.jobs
-    (append-layout g.D.Disk.faults c.sync.new.self c.append.new.self _ c.in_err-append.field-0.0 c.in_err-append.ensures.cause ∙ ap (λ s. s.layout) c.in_ok-sync.ensures.kept) refl refl refl refl c.self.invariant
+    record {
+      jobs =
+          kept-stay c.self.inside.store.layout c.append.new.self.layout c.self.inside.jobs c.self.inside.jobs
+          (append-layout g.D.Disk.faults c.sync.new.self c.append.new.self _ c.in_err-append.field-0.0 c.in_err-append.ensures.cause ∙ ap (λ s. s.layout) c.in_ok-sync.ensures.kept) refl refl refl refl c.self.invariant.jobs;
+      store = c.append.ensures.sound;
+    }
 
 pub invariant_of-self-2 : goal.invariant_of-self-2
 invariant_of-self-2 g c =
@@ -85,16 +93,20 @@ invariant_of-self-2 g c =
     let deck = (option_map rc_value c.args.deck) in
     let layout = c.self.inside.store.layout in
     let jobs = c.self.inside.jobs in
-    let kept = c.self.invariant in
+    let kept = c.self.invariant.jobs in
     let follow = ap (may_follow event deck) c.self.view_is ∙ c.requires.follows in
-    subst (λ (l : Layout). AreKept l c.keep.new.self) (sym (ap (λ s. s.layout) c.in_ok-append.ensures.kept ∙ ap (λ s. s.layout) c.in_ok-sync.ensures.kept))
-    (record {
-      are = c.keep.ensures.jobs layout kept.are follow;
-      own = c.keep.ensures.own layout kept.are kept.own follow (subst (λ (s : DeskView g.row.D.Denot). KnowsItsPoint event s.jobs.tables.desk s.jobs.points) (sym c.self.view_is) c.requires.knows) (subst (λ (s : DeskView g.row.D.Denot). CommitsItsOwn event s.jobs.tables.desk s.jobs.running) (sym c.self.view_is) c.requires.commits);
-      left = c.keep.ensures.left layout kept.are kept.left follow (subst (λ (s : DeskView g.row.D.Denot). LeavesLeft event s.jobs.failed) (sym c.self.view_is) c.requires.leaves);
-      numbered = subst (λ (tables : TablesModel). AreNumbered 1 tables.runs) (sym c.keep.ensures.tables)
-          (numbered-behind layout jobs.tables.desk event deck follow kept.numbered);
-    })
+    record {
+      jobs =
+          subst (λ (l : Layout). AreKept l c.keep.new.self) (sym (ap (λ s. s.layout) c.in_ok-append.ensures.kept ∙ ap (λ s. s.layout) c.in_ok-sync.ensures.kept))
+          (record {
+            are = c.keep.ensures.jobs layout kept.are follow;
+            own = c.keep.ensures.own layout kept.are kept.own follow (subst (λ (s : DeskView g.row.D.Denot). KnowsItsPoint event s.jobs.tables.desk s.jobs.points) (sym c.self.view_is) c.requires.knows) (subst (λ (s : DeskView g.row.D.Denot). CommitsItsOwn event s.jobs.tables.desk s.jobs.running) (sym c.self.view_is) c.requires.commits);
+            left = c.keep.ensures.left layout kept.are kept.left follow (subst (λ (s : DeskView g.row.D.Denot). LeavesLeft event s.jobs.failed) (sym c.self.view_is) c.requires.leaves);
+            numbered = subst (λ (tables : TablesModel). AreNumbered 1 tables.runs) (sym c.keep.ensures.tables)
+                (numbered-behind layout jobs.tables.desk event deck follow kept.numbered);
+          });
+      store = c.append.ensures.sound;
+    }
 
 -- ---- where the disk fails
 

@@ -39,7 +39,7 @@ returns-in_err-event-clause-left g c is_open =
     let now = c.args.self.now in
     let laws = g.met.D.Disk g.world.𝓛 g.world.𝓜 g.world.𝓡 ((λ s x. x), (λ x. x), (λ x. x), λ x. x) in
     nothing-left d.told d.content d.may_leave d.moment d.left_since d.size (Submitted c.args.number (kept_of_stored c.args.cards.now)) (Some c.args.job) now
-    (subst (λ s. IsSound d.content d.may_leave d.size s.store) c.self.view_is c.layout-layout.ensures.sound) is_open (laws.only_now now.store.disk)
+    (subst (λ s. IsSound d.content d.may_leave d.size s.store) c.self.view_is c.self.invariant.store) is_open (laws.only_now now.store.disk)
 
 pub tell-requires-clause-commits : goal.tell-requires-clause-commits
 tell-requires-clause-commits g c κs within =

@@ -41,15 +41,27 @@ returns-in_ok-rewrite-in-Tell-clause-left g c =
 
 pub invariant_of-self : goal.invariant_of-self
 invariant_of-self g c =
-    let kept = c.self.invariant in
-    kept-waiting c.self.inside.store.layout c.self.inside.jobs c.wait.new.self c.wait.ensures.tables (c.wait.ensures.jobs c.self.inside.store.layout kept.are) (c.wait.ensures.own kept.own) (c.wait.ensures.left kept.left) kept
+    let kept = c.self.invariant.jobs in
+    record {
+      jobs =
+          kept-waiting c.self.inside.store.layout c.self.inside.jobs c.wait.new.self c.wait.ensures.tables (c.wait.ensures.jobs c.self.inside.store.layout kept.are) (c.wait.ensures.own kept.own) (c.wait.ensures.left kept.left) kept;
+      store = c.self.invariant.store;
+    }
 
 pub invariant_of-self-in-Wait-2 : goal.invariant_of-self-in-Wait-2
 invariant_of-self-in-Wait-2 g c =
-    let kept = c.self.invariant in
-    kept-waiting c.self.inside.store.layout c.self.inside.jobs c.wait.new.self c.wait.ensures.tables (c.wait.ensures.jobs c.self.inside.store.layout kept.are) (c.wait.ensures.own kept.own) (c.wait.ensures.left kept.left) kept
+    let kept = c.self.invariant.jobs in
+    record {
+      jobs =
+          kept-waiting c.self.inside.store.layout c.self.inside.jobs c.wait.new.self c.wait.ensures.tables (c.wait.ensures.jobs c.self.inside.store.layout kept.are) (c.wait.ensures.own kept.own) (c.wait.ensures.left kept.left) kept;
+      store = c.self.invariant.store;
+    }
 
 pub invariant_of-self-in-Wait-3 : goal.invariant_of-self-in-Wait-3
 invariant_of-self-in-Wait-3 g c =
-    let kept = c.self.invariant in
-    kept-waiting c.self.inside.store.layout c.self.inside.jobs c.wait.new.self c.wait.ensures.tables (c.wait.ensures.jobs c.self.inside.store.layout kept.are) (c.wait.ensures.own kept.own) (c.wait.ensures.left kept.left) kept
+    let kept = c.self.invariant.jobs in
+    record {
+      jobs =
+          kept-waiting c.self.inside.store.layout c.self.inside.jobs c.wait.new.self c.wait.ensures.tables (c.wait.ensures.jobs c.self.inside.store.layout kept.are) (c.wait.ensures.own kept.own) (c.wait.ensures.left kept.left) kept;
+      store = c.self.invariant.store;
+    }

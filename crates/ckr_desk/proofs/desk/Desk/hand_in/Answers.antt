@@ -63,7 +63,7 @@ returns-in_err-number-clause-left g c is_open =
     let now = c.args.self.now in
     let laws = g.met.D.Disk g.world.𝓛 g.world.𝓜 g.world.𝓡 ((λ s x. x), (λ x. x), (λ x. x), λ x. x) in
     call-left d.told d.content d.may_leave d.moment d.left_since d.size (submit_call now.jobs.tables.desk c.args.cards.now) now
-    (subst (λ s. IsSound d.content d.may_leave d.size s.store) c.self.view_is c.layout-layout.ensures.sound) is_open (laws.only_now now.store.disk)
+    (subst (λ s. IsSound d.content d.may_leave d.size s.store) c.self.view_is c.self.invariant.store) is_open (laws.only_now now.store.disk)
 
 pub returns-in-Refused-clause-left : goal.returns-in-Refused-clause-left
 returns-in-Refused-clause-left g c is_open =
@@ -71,7 +71,7 @@ returns-in-Refused-clause-left g c is_open =
     let now = c.args.self.now in
     let laws = g.met.D.Disk g.world.𝓛 g.world.𝓜 g.world.𝓡 ((λ s x. x), (λ x. x), (λ x. x), λ x. x) in
     call-left d.told d.content d.may_leave d.moment d.left_since d.size (submit_call now.jobs.tables.desk c.args.cards.now) now
-    (subst (λ s. IsSound d.content d.may_leave d.size s.store) c.self.view_is c.layout-layout.ensures.sound) is_open (laws.only_now now.store.disk)
+    (subst (λ s. IsSound d.content d.may_leave d.size s.store) c.self.view_is c.self.invariant.store) is_open (laws.only_now now.store.disk)
 
 pub returns-in-Refused-clause-settled : goal.returns-in-Refused-clause-settled
 unfolding submit_call

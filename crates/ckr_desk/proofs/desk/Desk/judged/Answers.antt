@@ -1,5 +1,6 @@
-use Rattle.std.proofs.Common.{◌≡◌, ◌≢◌, ◌∙◌, ℕ, Some, find, true, ap, refl, subst, sym}
+use Rattle.std.proofs.Common.{◌≡◌, ◌≢◌, ◌∙◌, ℕ, Option, Some, find, true, ap, refl, subst, sym}
 use Rattle.std.proofs.lemmas.Bool.{false≢true}
+use Rattle.std.specs.Option.{option_map_or}
 use Rattle.ckr_console.specs.declared.question.Answer.TheVariants.{Silent}
 use Rattle.ckr_desk_memory.specs.EventChanges.{is_point_of}
 use Rattle.ckr_desk_memory.specs.Invariant.{AreJobs}
@@ -17,7 +18,7 @@ use Rattle.ckr_volumes.specs.Layouts.{StandsIn}
 use Rattle.ckr_volumes.specs.declared.layout.Layout.{Layout}
 use Rattle.ckr_desk.proofs.Continuations.Entries.{point-counted}
 use Rattle.ckr_desk.proofs.Continuations.Plans.{found-knows, judged-there, not-ok, ok-point, point-there, queued-so, stands-there}
-use Rattle.ckr_desk.specs.Continuation.{GoesOnThere, IsEntryPoint, IsPointFound, PlanKnows, continuation_in, judged_point, program_in}
+use Rattle.ckr_desk.specs.Continuation.{GoesOnThere, IsEntryPoint, IsPointFound, PlanKnows, continuation_in, judged_point, plan_by, program_in}
 use Rattle.ckr_desk.specs.NoChange.{HaveStayed, IsUnchanged}
 use Rattle.ckr_desk.specs.Soundness.{state_of}
 use Rattle.ckr_desk.specs.State.{AreKept, DeskView}
@@ -55,7 +56,7 @@ point-of tables now at point same its = subst (λ (t : RoomyTables). IsEntryPoin
 
 pub judged_point-requires-clause-stand : goal.judged_point-requires-clause-stand
 judged_point-requires-clause-stand g c κs within =
-    subst (λ (t : RoomyTables). EachEntry (λ (table : TableSet). StandsIn c.self.inside.store.layout table.set) t.desk.sets) (sym c.tables.ensures) c.self.invariant.are.laid.stand
+    subst (λ (t : RoomyTables). EachEntry (λ (table : TableSet). StandsIn c.self.inside.store.layout table.set) t.desk.sets) (sym c.tables.ensures) c.self.invariant.jobs.are.laid.stand
 
 pub put_point-requires : goal.put_point-requires
 put_point-requires g c =
@@ -72,8 +73,24 @@ invariant_of-self-in-Ok g c =
     let is : continuation_in c.args.plan ≡ Some at = sym c.continuation_in.ensures ∙ c.in-Some.is in
     let follow = subst (λ (s : DeskView g.row.D.Denot). PlanFollows s.store.layout s.jobs.tables.desk c.args.plan) (sym c.self.view_is) c.requires.follows in
     let queued = ap (λ (p : PointView). of_run old.tables.desk p.run (is_in_state Queued)) its.is ∙ queued-so c.self.inside.store.layout old.tables.desk c.args.plan at is follow in
-    kept-so c.self.inside.store.layout c.judged_point.new.store.layout old c.put_point.new.self c.in-Ok.point (ap (λ (s : StoreView g.row.D.Denot). s.layout) c.in_ok-point.ensures.kept) c.put_point.ensures.tables queued
-    c.self.invariant c.put_point.ensures.jobs c.put_point.ensures.own c.put_point.ensures.left
+    record {
+      jobs =
+          kept-so c.self.inside.store.layout c.judged_point.new.store.layout old c.put_point.new.self c.in-Ok.point (ap (λ (s : StoreView g.row.D.Denot). s.layout) c.in_ok-point.ensures.kept) c.put_point.ensures.tables queued
+          c.self.invariant.jobs c.put_point.ensures.jobs c.put_point.ensures.own c.put_point.ensures.left;
+      store = c.judged_point.ensures.sound;
+    }
+
+pub returns-in_ok-put_point-in-Ok-clause-judged : goal.returns-in_ok-put_point-in-Ok-clause-judged
+returns-in_ok-put_point-in-Ok-clause-judged g c = λ told.
+    let d = g.D.Disk in
+    let now = c.args.self.now in
+    let at = c.in-Some.at in
+    let is : continuation_in c.args.plan ≡ Some at = sym c.continuation_in.ensures ∙ c.in-Some.is in
+    let found = sym c.in-Ok.is ∙ c.in_ok-point.ensures.judged told ∙ ap (λ (t : RoomyTables). judged_point c.self.inside.store.layout t.desk (d.content c.self.inside.store.disk) at) c.tables.ensures
+    ∙ ap (λ (s : DeskView g.row.D.Denot). judged_point s.store.layout s.jobs.tables.desk (d.content s.store.disk) at) c.self.view_is
+    in
+    ap (plan_by c.args.plan at.job) found
+    ∙ sym (ap (λ (o : Option Continuation). option_map_or (λ (at : Continuation). plan_by c.args.plan at.job (judged_point now.store.layout now.jobs.tables.desk (d.content now.store.disk) at)) o c.args.plan) is)
 
 pub returns-in_ok-put_point-in-Ok-clause-knows : goal.returns-in_ok-put_point-in-Ok-clause-knows
 returns-in_ok-put_point-in-Ok-clause-knows g c =
@@ -101,11 +118,11 @@ returns-in_ok-put_point-in-Ok-clause-trusted g c =
     subst (λ (s : DeskView g.row.D.Denot). (turn : MountedTurn) → IsPlanned d.told d.content d.may_leave s turn c.args.plan → GoesOnThere (state_of d.content s).desk new.points c.args.plan c.args.plan) c.self.view_is
     (λ turn p. record {
       same = refl;
-      point = stands-there d.told d.content d.may_leave d.size old p.trusted c.self.invariant.are.laid turn p.its Silent c.args.plan p.planned follow at is c.in-Ok.point new.points
+      point = stands-there d.told d.content d.may_leave d.size old p.trusted c.self.invariant.jobs.are.laid turn p.its Silent c.args.plan p.planned follow at is c.in-Ok.point new.points
           (ap (λ (p : PointView). find (is_point_of p.run) new.points) (sym its.is) ∙ c.in_ok-put_point-in-Ok.ensures.found)
-          (ok-point c.in-Ok.point (point-there d.told d.content d.may_leave d.size old p.trusted c.self.invariant.are.laid turn p.its Silent c.args.plan p.planned follow at is).point
+          (ok-point c.in-Ok.point (point-there d.told d.content d.may_leave d.size old p.trusted c.self.invariant.jobs.are.laid turn p.its Silent c.args.plan p.planned follow at is).point
           (sym c.in-Ok.is ∙ c.in_ok-point.ensures.judged p.trusted.tells ∙ ap (λ (t : RoomyTables). judged_point old.store.layout t.desk (d.content old.store.disk) at) c.tables.ensures
-          ∙ judged-there d.told d.content d.may_leave d.size old p.trusted c.self.invariant.are.laid turn p.its Silent c.args.plan p.planned follow at is));
+          ∙ judged-there d.told d.content d.may_leave d.size old p.trusted c.self.invariant.jobs.are.laid turn p.its Silent c.args.plan p.planned follow at is));
     })
 
 pub returns-in_ok-put_point-in-Ok-clause-jobs : goal.returns-in_ok-put_point-in-Ok-clause-jobs
@@ -148,6 +165,6 @@ returns-in-Err-clause-trusted g c =
     let follow = subst (λ (s : DeskView g.row.D.Denot). PlanFollows s.store.layout s.jobs.tables.desk c.args.plan) (sym c.self.view_is) c.requires.follows in
     subst (λ (s : DeskView g.row.D.Denot). (turn : MountedTurn) → IsPlanned d.told d.content d.may_leave s turn c.args.plan → GoesOnThere (state_of d.content s).desk c.match-plan-5.self.jobs.points c.args.plan c.denied.result) c.self.view_is
     (λ turn p.
-    absurd (not-ok c.in-Err.rule (point-there d.told d.content d.may_leave d.size old p.trusted c.self.invariant.are.laid turn p.its Silent c.args.plan p.planned follow at is).point
+    absurd (not-ok c.in-Err.rule (point-there d.told d.content d.may_leave d.size old p.trusted c.self.invariant.jobs.are.laid turn p.its Silent c.args.plan p.planned follow at is).point
     (sym c.in-Err.is ∙ c.in_ok-point.ensures.judged p.trusted.tells ∙ ap (λ (t : RoomyTables). judged_point old.store.layout t.desk (d.content old.store.disk) at) c.tables.ensures
-    ∙ judged-there d.told d.content d.may_leave d.size old p.trusted c.self.invariant.are.laid turn p.its Silent c.args.plan p.planned follow at is)))
+    ∙ judged-there d.told d.content d.may_leave d.size old p.trusted c.self.invariant.jobs.are.laid turn p.its Silent c.args.plan p.planned follow at is)))

@@ -9,4 +9,4 @@ returns-clause-kept g c is_open trusted =
     let now = c.args.self.now in
     let laws = g.met.D.Disk g.world.𝓛 g.world.𝓜 g.world.𝓡 ((λ s x. x), (λ x. x), (λ x. x), λ x. x) in
     none-kept d.told d.content d.may_leave d.size now trusted d.moment d.left_since
-    (subst (λ s. IsSound d.content d.may_leave d.size s.store) c.self.view_is c.layout.ensures.sound) is_open (laws.only_now now.store.disk)
+    (subst (λ s. IsSound d.content d.may_leave d.size s.store) c.self.view_is c.self.invariant.store) is_open (laws.only_now now.store.disk)

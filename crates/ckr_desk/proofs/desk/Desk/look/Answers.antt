@@ -24,7 +24,7 @@ told-plan-requires-clause-counted g c =
     out.unit.counted
 
 pub told-plan-requires-clause-short : goal.told-plan-requires-clause-short
-told-plan-requires-clause-short g c name set is = short-so _ _ (c.in-Some.ensures.runnable c.self.inside.store.layout c.self.invariant.are).stored name set is
+told-plan-requires-clause-short g c name set is = short-so _ _ (c.in-Some.ensures.runnable c.self.inside.store.layout c.self.invariant.jobs.are).stored name set is
 
 pub told-plan-requires-clause-code : goal.told-plan-requires-clause-code
 told-plan-requires-clause-code g c =
@@ -42,7 +42,7 @@ returns-clause-ahead g c =
     let out = out-of d.told d.content c.args.run old c.args.unit of (step_seen c.in-Some.on.now) (sym c.in-Some.ensures.step) in
     let on = step_seen c.in-Some.on.now in
     let unit = c.args.unit in
-    let runnable = c.in-Some.ensures.runnable c.self.inside.store.layout c.self.invariant.are in
+    let runnable = c.in-Some.ensures.runnable c.self.inside.store.layout c.self.invariant.jobs.are in
     rw (← c.self.view_is)
     (is-ahead d.told d.content c.args.run old c.settle.new.self on unit c.told-plan.result (restart_answer old.machine_room.operator)
     (c.settle.ensures.store ∙ ap (λ (s : DeskView g.row.D.Denot). s.store) (sym c.self.view_is))
@@ -55,8 +55,8 @@ returns-clause-ahead g c =
     (c.in_ok-plan.ensures.decided ∙ ap (λ (s : DeskView g.row.D.Denot). decide (restart_answer s.machine_room.operator) c.told-plan.result) (sym c.self.view_is))
     c.told-plan.ensures.unit c.in_ok-plan.ensures.spelled
     (subst (λ (l : Layout). PlanFollows l c.self.inside.jobs.tables.desk c.told-plan.result) c.layout.ensures.layout
-    (c.told-plan.ensures.own out.heads c.self.invariant.are.placed (c.in-Some.ensures.own c.self.invariant.own) (stored-fit c.self.inside.store.layout on.sets runnable.stored) runnable.there out.unit))
-    (c.told-plan.ensures.commits (c.in-Some.ensures.own c.self.invariant.own)) (c.told-plan.ensures.of_run (c.in-Some.ensures.own c.self.invariant.own))
+    (c.told-plan.ensures.own out.heads c.self.invariant.jobs.are.placed (c.in-Some.ensures.own c.self.invariant.jobs.own) (stored-fit c.self.inside.store.layout on.sets runnable.stored) runnable.there out.unit))
+    (c.told-plan.ensures.commits (c.in-Some.ensures.own c.self.invariant.jobs.own)) (c.told-plan.ensures.of_run (c.in-Some.ensures.own c.self.invariant.jobs.own))
     c.in_ok-plan.ready c.in_ok-plan.ensures.ready)
 
 pub returns-in_err-plan-clause-cause : goal.returns-in_err-plan-clause-cause
@@ -73,7 +73,7 @@ returns-in_err-plan-clause-cause g c =
     (not-settled d.told d.content c.args.run old c.settle.new.self on unit c.told-plan.result (restart_answer old.machine_room.operator)
     (c.settle.ensures.store ∙ ap (λ (s : DeskView g.row.D.Denot). s.store) (sym c.self.view_is))
     (subst (λ (s : DeskView g.row.D.Denot). HasSameJobs s c.settle.new.self) (sym c.self.view_is) c.settle.ensures.jobs)
-    (sym c.in-Some.ensures.step) (uncoded-of d.told d.content c.args.run old unit of on (sym c.in-Some.ensures.step)) (c.in-Some.ensures.runnable c.self.inside.store.layout c.self.invariant.are).there out
+    (sym c.in-Some.ensures.step) (uncoded-of d.told d.content c.args.run old unit of on (sym c.in-Some.ensures.step)) (c.in-Some.ensures.runnable c.self.inside.store.layout c.self.invariant.jobs.are).there out
     (λ row own at within.
     c.told-plan.ensures.plan row own at within
     ∙ ap (λ (l : Layout). told_by l c.self.inside.jobs.tables.desk row (running_of c.self.inside.jobs.tables.desk (behind_unit on unit)) unit.worked) c.layout.ensures.layout)
@@ -94,7 +94,7 @@ returns-clause-answered g c =
     let seen = asks-old d.told d.content c.args.run old new on unit said (restart_answer old.machine_room.operator)
     (c.settle.ensures.store ∙ ap (λ (s : DeskView g.row.D.Denot). s.store) (sym c.self.view_is))
     (subst (λ (s : DeskView g.row.D.Denot). HasSameJobs s new) (sym c.self.view_is) c.settle.ensures.jobs)
-    (sym c.in-Some.ensures.step) (uncoded-of d.told d.content c.args.run old unit of on (sym c.in-Some.ensures.step)) (c.in-Some.ensures.runnable c.self.inside.store.layout c.self.invariant.are).there out
+    (sym c.in-Some.ensures.step) (uncoded-of d.told d.content c.args.run old unit of on (sym c.in-Some.ensures.step)) (c.in-Some.ensures.runnable c.self.inside.store.layout c.self.invariant.jobs.are).there out
     (λ row own at within.
     c.told-plan.ensures.plan row own at within
     ∙ ap (λ (l : Layout). told_by l c.self.inside.jobs.tables.desk row (running_of c.self.inside.jobs.tables.desk (behind_unit on unit)) unit.worked) c.layout.ensures.layout)
@@ -117,7 +117,7 @@ returns-in_err-plan-clause-answered g c =
     let seen = asks-old d.told d.content c.args.run old new on unit said (restart_answer old.machine_room.operator)
     (c.settle.ensures.store ∙ ap (λ (s : DeskView g.row.D.Denot). s.store) (sym c.self.view_is))
     (subst (λ (s : DeskView g.row.D.Denot). HasSameJobs s new) (sym c.self.view_is) c.settle.ensures.jobs)
-    (sym c.in-Some.ensures.step) (uncoded-of d.told d.content c.args.run old unit of on (sym c.in-Some.ensures.step)) (c.in-Some.ensures.runnable c.self.inside.store.layout c.self.invariant.are).there out
+    (sym c.in-Some.ensures.step) (uncoded-of d.told d.content c.args.run old unit of on (sym c.in-Some.ensures.step)) (c.in-Some.ensures.runnable c.self.inside.store.layout c.self.invariant.jobs.are).there out
     (λ row own at within.
     c.told-plan.ensures.plan row own at within
     ∙ ap (λ (l : Layout). told_by l c.self.inside.jobs.tables.desk row (running_of c.self.inside.jobs.tables.desk (behind_unit on unit)) unit.worked) c.layout.ensures.layout)

@@ -8,7 +8,11 @@ use Rattle.ckr_desk.proofs.desk.Desk.memory_for.Goals as goal
 pub invariant_of-self : goal.invariant_of-self
 invariant_of-self g c =
     let e = c.prepare_mounts.ensures in
-    kept-stay c.self.inside.store.layout c.self.inside.store.layout c.self.inside.jobs c.prepare_mounts.new.self refl e.desk e.running e.failed e.points c.self.invariant
+    record {
+      jobs =
+          kept-stay c.self.inside.store.layout c.self.inside.store.layout c.self.inside.jobs c.prepare_mounts.new.self refl e.desk e.running e.failed e.points c.self.invariant.jobs;
+      store = c.self.invariant.store;
+    }
 
 pub returns-clause-memory : goal.returns-clause-memory
 returns-clause-memory g c =
@@ -26,4 +30,8 @@ returns-clause-memory g c =
 pub invariant_of-self-2 : goal.invariant_of-self-2
 invariant_of-self-2 g c =
     let e = c.prepare_mounts.ensures in
-    kept-stay c.self.inside.store.layout c.self.inside.store.layout c.self.inside.jobs c.prepare_mounts.new.self refl e.desk e.running e.failed e.points c.self.invariant
+    record {
+      jobs =
+          kept-stay c.self.inside.store.layout c.self.inside.store.layout c.self.inside.jobs c.prepare_mounts.new.self refl e.desk e.running e.failed e.points c.self.invariant.jobs;
+      store = c.self.invariant.store;
+    }

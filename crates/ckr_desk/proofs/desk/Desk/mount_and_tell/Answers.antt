@@ -1,6 +1,6 @@
 use Rattle.std.proofs.Common.{◌≡◌, ◌∙◌, [], List, Some, Ok, ap, refl, sym, subst}
 use Rattle.ckr_console.specs.Answering.{restart_answer}
-use Rattle.ckr_desk_store.specs.State.{IsSound, StoreView}
+use Rattle.ckr_desk_store.specs.State.{StoreView}
 use Rattle.ckr_desk_turn.specs.Mounts.{volumes_of, wanting}
 use Rattle.ckr_points.specs.Rows.{TablesModel}
 use Rattle.ckr_queue.specs.Mounts.{MountTable, held_at, units_with, with_held}
@@ -26,13 +26,12 @@ returns-in_err-prepared-clause-attended g c turn its p at =
     let d = g.D.Disk in
     let now = c.args.self.now in
     let laws = g.met.D.Disk g.world.𝓛 g.world.𝓜 g.world.𝓡 ((λ s x. x), (λ x. x), (λ x. x), λ x. x) in
-    let sound = subst (λ (s : DeskView g.row.D.Denot). IsSound d.content d.may_leave d.size s.store) c.self.view_is c.layout-layout.ensures.sound in
     let mid = c.memory_for.new.self in
     let e = c.memory_for.ensures in
     let is = as-before d.content d.may_leave now mid d.told (same-unchanged d.content d.may_leave now mid e.jobs e.store) in
     let sized = ap (λ (s : StoreView g.row.D.Denot). d.size s.disk) e.store in
     let since = same-left d.moment d.left_since now.store mid.store (λ image. OpensSame d.content d.size now image × d.may_leave now.store.disk image) e.store
-    (now-left d.told d.content d.may_leave d.moment d.left_since d.size now sound c.requires.is_open (laws.only_now now.store.disk)) in
+    (now-left d.told d.content d.may_leave d.moment d.left_since d.size now c.requires.sound c.requires.is_open (laws.only_now now.store.disk)) in
     let roomed = e.machine_room in
     let tables = e.jobs.tables in
     let layouts = ap (λ (s : StoreView g.row.D.Denot). s.layout) e.store in
@@ -46,19 +45,18 @@ mount_all-requires-clause-there g c κs within =
     let d = g.D.Disk in
     let now = c.args.self.now in
     let laws = g.met.D.Disk g.world.𝓛 g.world.𝓜 g.world.𝓡 ((λ s x. x), (λ x. x), (λ x. x), λ x. x) in
-    let sound = subst (λ (s : DeskView g.row.D.Denot). IsSound d.content d.may_leave d.size s.store) c.self.view_is c.layout-layout.ensures.sound in
     let mid = c.memory_for.new.self in
     let e = c.memory_for.ensures in
     let is = as-before d.content d.may_leave now mid d.told (same-unchanged d.content d.may_leave now mid e.jobs e.store) in
     let sized = ap (λ (s : StoreView g.row.D.Denot). d.size s.disk) e.store in
     let since = same-left d.moment d.left_since now.store mid.store (λ image. OpensSame d.content d.size now image × d.may_leave now.store.disk image) e.store
-    (now-left d.told d.content d.may_leave d.moment d.left_since d.size now sound c.requires.is_open (laws.only_now now.store.disk)) in
+    (now-left d.told d.content d.may_leave d.moment d.left_since d.size now c.requires.sound c.requires.is_open (laws.only_now now.store.disk)) in
     let roomed = e.machine_room in
     let tables = e.jobs.tables in
     let layouts = ap (λ (s : StoreView g.row.D.Denot). s.layout) e.store in
-    let inside : DeskView g.row.D.Denot = record { store = c.self-2.inside.store; jobs = c.self-2.inside.jobs; machine_room = c.self-2.inside.machine_room } in
-    let layout_is : c.layout.result.now ≡ now.store.layout = c.layout.ensures.layout ∙ ap (λ (s : DeskView g.row.D.Denot). s.store.layout) c.self-2.view_is ∙ layouts in
-    let room_is : inside.machine_room ≡ now.machine_room = ap (λ (s : DeskView g.row.D.Denot). s.machine_room) c.self-2.view_is ∙ roomed in
+    let inside : DeskView g.row.D.Denot = record { store = c.self.inside.store; jobs = c.self.inside.jobs; machine_room = c.self.inside.machine_room } in
+    let layout_is : c.layout.result.now ≡ now.store.layout = c.layout.ensures.layout ∙ ap (λ (s : DeskView g.row.D.Denot). s.store.layout) c.self.view_is ∙ layouts in
+    let room_is : inside.machine_room ≡ now.machine_room = ap (λ (s : DeskView g.row.D.Denot). s.machine_room) c.self.view_is ∙ roomed in
     let items_are : c.deref.result.now ≡ c.args.wanted.items = c.deref.ensures.0 in
     ap (λ (v : List _). are_there c.layout.result.now v) items_are ∙ ap (λ (l : Layout). are_there l c.args.wanted.items) layout_is
     ∙ ap (are_there now.store.layout) c.requires.to_mount.volumes_are ∙ there-wanted now.store.layout c.requires.to_mount.step
@@ -68,19 +66,18 @@ mount_all-requires-clause-fit g c κs within =
     let d = g.D.Disk in
     let now = c.args.self.now in
     let laws = g.met.D.Disk g.world.𝓛 g.world.𝓜 g.world.𝓡 ((λ s x. x), (λ x. x), (λ x. x), λ x. x) in
-    let sound = subst (λ (s : DeskView g.row.D.Denot). IsSound d.content d.may_leave d.size s.store) c.self.view_is c.layout-layout.ensures.sound in
     let mid = c.memory_for.new.self in
     let e = c.memory_for.ensures in
     let is = as-before d.content d.may_leave now mid d.told (same-unchanged d.content d.may_leave now mid e.jobs e.store) in
     let sized = ap (λ (s : StoreView g.row.D.Denot). d.size s.disk) e.store in
     let since = same-left d.moment d.left_since now.store mid.store (λ image. OpensSame d.content d.size now image × d.may_leave now.store.disk image) e.store
-    (now-left d.told d.content d.may_leave d.moment d.left_since d.size now sound c.requires.is_open (laws.only_now now.store.disk)) in
+    (now-left d.told d.content d.may_leave d.moment d.left_since d.size now c.requires.sound c.requires.is_open (laws.only_now now.store.disk)) in
     let roomed = e.machine_room in
     let tables = e.jobs.tables in
     let layouts = ap (λ (s : StoreView g.row.D.Denot). s.layout) e.store in
-    let inside : DeskView g.row.D.Denot = record { store = c.self-2.inside.store; jobs = c.self-2.inside.jobs; machine_room = c.self-2.inside.machine_room } in
-    let layout_is : c.layout.result.now ≡ now.store.layout = c.layout.ensures.layout ∙ ap (λ (s : DeskView g.row.D.Denot). s.store.layout) c.self-2.view_is ∙ layouts in
-    let room_is : inside.machine_room ≡ now.machine_room = ap (λ (s : DeskView g.row.D.Denot). s.machine_room) c.self-2.view_is ∙ roomed in
+    let inside : DeskView g.row.D.Denot = record { store = c.self.inside.store; jobs = c.self.inside.jobs; machine_room = c.self.inside.machine_room } in
+    let layout_is : c.layout.result.now ≡ now.store.layout = c.layout.ensures.layout ∙ ap (λ (s : DeskView g.row.D.Denot). s.store.layout) c.self.view_is ∙ layouts in
+    let room_is : inside.machine_room ≡ now.machine_room = ap (λ (s : DeskView g.row.D.Denot). s.machine_room) c.self.view_is ∙ roomed in
     let items_are : c.deref.result.now ≡ c.args.wanted.items = c.deref.ensures.0 in
     subst (λ (r : MachineRoomView). FitsUnits c.layout.result.now c.deref.result.now r) (sym room_is)
     (subst (λ (v : List _). FitsUnits c.layout.result.now v now.machine_room) (sym items_are) (subst (λ (l : Layout). FitsUnits l c.args.wanted.items now.machine_room) (sym layout_is) c.requires.to_mount.fits))
@@ -90,46 +87,44 @@ returns-in_err-reply-in-Taken-clause-attended g c turn its p at =
     let d = g.D.Disk in
     let now = c.args.self.now in
     let laws = g.met.D.Disk g.world.𝓛 g.world.𝓜 g.world.𝓡 ((λ s x. x), (λ x. x), (λ x. x), λ x. x) in
-    let sound = subst (λ (s : DeskView g.row.D.Denot). IsSound d.content d.may_leave d.size s.store) c.self.view_is c.layout-layout.ensures.sound in
     let mid = c.memory_for.new.self in
     let e = c.memory_for.ensures in
     let is = as-before d.content d.may_leave now mid d.told (same-unchanged d.content d.may_leave now mid e.jobs e.store) in
     let sized = ap (λ (s : StoreView g.row.D.Denot). d.size s.disk) e.store in
     let since = same-left d.moment d.left_since now.store mid.store (λ image. OpensSame d.content d.size now image × d.may_leave now.store.disk image) e.store
-    (now-left d.told d.content d.may_leave d.moment d.left_since d.size now sound c.requires.is_open (laws.only_now now.store.disk)) in
+    (now-left d.told d.content d.may_leave d.moment d.left_since d.size now c.requires.sound c.requires.is_open (laws.only_now now.store.disk)) in
     let roomed = e.machine_room in
     let tables = e.jobs.tables in
     let layouts = ap (λ (s : StoreView g.row.D.Denot). s.layout) e.store in
-    let inside : DeskView g.row.D.Denot = record { store = c.self-2.inside.store; jobs = c.self-2.inside.jobs; machine_room = c.self-2.inside.machine_room } in
-    let layout_is : c.layout.result.now ≡ now.store.layout = c.layout.ensures.layout ∙ ap (λ (s : DeskView g.row.D.Denot). s.store.layout) c.self-2.view_is ∙ layouts in
-    let room_is : inside.machine_room ≡ now.machine_room = ap (λ (s : DeskView g.row.D.Denot). s.machine_room) c.self-2.view_is ∙ roomed in
+    let inside : DeskView g.row.D.Denot = record { store = c.self.inside.store; jobs = c.self.inside.jobs; machine_room = c.self.inside.machine_room } in
+    let layout_is : c.layout.result.now ≡ now.store.layout = c.layout.ensures.layout ∙ ap (λ (s : DeskView g.row.D.Denot). s.store.layout) c.self.view_is ∙ layouts in
+    let room_is : inside.machine_room ≡ now.machine_room = ap (λ (s : DeskView g.row.D.Denot). s.machine_room) c.self.view_is ∙ roomed in
     let items_are : c.deref.result.now ≡ c.args.wanted.items = c.deref.ensures.0 in
     let asked = asked-alike now.store.layout c.layout.result.now c.args.wanted.items c.deref.result.now now.machine_room inside.machine_room _ c.mount_all.new.self layout_is items_are room_is c.in-Taken.ensures.taking c.in-Taken.ensures.behind in
     let m = subst (λ i. IsToMount now.store.layout now.jobs now.machine_room i c.args.plan c.args.wanted.items) (sym its) c.requires.to_mount in
-    let q = asked-planned d.told d.content d.may_leave d.moment d.left_since d.size now mid inside is sized since c.self-2.view_is c.mount_all.new.self (untaken turn) c.args.plan p in
-    let there = asked-at d.told d.content d.may_leave d.moment d.left_since d.size now mid inside is sized since c.self-2.view_is c.mount_all.new.self (ap (λ (s : DeskView g.row.D.Denot). s.jobs.points) c.self-2.view_is ∙ e.jobs.points) c.args.plan at in
+    let q = asked-planned d.told d.content d.may_leave d.moment d.left_since d.size now mid inside is sized since c.self.view_is c.mount_all.new.self (untaken turn) c.args.plan p in
+    let there = asked-at d.told d.content d.may_leave d.moment d.left_since d.size now mid inside is sized since c.self.view_is c.mount_all.new.self (ap (λ (s : DeskView g.row.D.Denot). s.jobs.points) c.self.view_is ∙ e.jobs.points) c.args.plan at in
     let error = c.in_err-reply-in-Taken.field-0.0 in
     subst (HasAttended d.told d.content d.may_leave d.moment d.left_since d.size turn now c.carry_out_with.new.self) (sym (err-is c.from_residual-in_err-reply-in-Taken.result error c.from_residual-in_err-reply-in-Taken.ensures.1))
-    (mount-failed d.told d.content d.may_leave d.moment d.left_since d.size now mid inside is sized since c.self-2.view_is turn c.args.plan c.args.wanted.items p m _ c.mount_all.new.self asked c.carry_out_with.new.self error c.in_err-reply-in-Taken.ensures.memory (c.in_err-reply-in-Taken.ensures.turned (untaken turn) q there) (c.in_err-reply-in-Taken.ensures.answered (untaken turn) q))
+    (mount-failed d.told d.content d.may_leave d.moment d.left_since d.size now mid inside is sized since c.self.view_is turn c.args.plan c.args.wanted.items p m _ c.mount_all.new.self asked c.carry_out_with.new.self error c.in_err-reply-in-Taken.ensures.memory (c.in_err-reply-in-Taken.ensures.turned (untaken turn) q there) (c.in_err-reply-in-Taken.ensures.answered (untaken turn) q))
 
 pub take-requires-clause-none : goal.take-requires-clause-none
 take-requires-clause-none g c κs within =
     let d = g.D.Disk in
     let now = c.args.self.now in
     let laws = g.met.D.Disk g.world.𝓛 g.world.𝓜 g.world.𝓡 ((λ s x. x), (λ x. x), (λ x. x), λ x. x) in
-    let sound = subst (λ (s : DeskView g.row.D.Denot). IsSound d.content d.may_leave d.size s.store) c.self.view_is c.layout-layout.ensures.sound in
     let mid = c.memory_for.new.self in
     let e = c.memory_for.ensures in
     let is = as-before d.content d.may_leave now mid d.told (same-unchanged d.content d.may_leave now mid e.jobs e.store) in
     let sized = ap (λ (s : StoreView g.row.D.Denot). d.size s.disk) e.store in
     let since = same-left d.moment d.left_since now.store mid.store (λ image. OpensSame d.content d.size now image × d.may_leave now.store.disk image) e.store
-    (now-left d.told d.content d.may_leave d.moment d.left_since d.size now sound c.requires.is_open (laws.only_now now.store.disk)) in
+    (now-left d.told d.content d.may_leave d.moment d.left_since d.size now c.requires.sound c.requires.is_open (laws.only_now now.store.disk)) in
     let roomed = e.machine_room in
     let tables = e.jobs.tables in
     let layouts = ap (λ (s : StoreView g.row.D.Denot). s.layout) e.store in
-    let inside : DeskView g.row.D.Denot = record { store = c.self-2.inside.store; jobs = c.self-2.inside.jobs; machine_room = c.self-2.inside.machine_room } in
-    let layout_is : c.layout.result.now ≡ now.store.layout = c.layout.ensures.layout ∙ ap (λ (s : DeskView g.row.D.Denot). s.store.layout) c.self-2.view_is ∙ layouts in
-    let room_is : inside.machine_room ≡ now.machine_room = ap (λ (s : DeskView g.row.D.Denot). s.machine_room) c.self-2.view_is ∙ roomed in
+    let inside : DeskView g.row.D.Denot = record { store = c.self.inside.store; jobs = c.self.inside.jobs; machine_room = c.self.inside.machine_room } in
+    let layout_is : c.layout.result.now ≡ now.store.layout = c.layout.ensures.layout ∙ ap (λ (s : DeskView g.row.D.Denot). s.store.layout) c.self.view_is ∙ layouts in
+    let room_is : inside.machine_room ≡ now.machine_room = ap (λ (s : DeskView g.row.D.Denot). s.machine_room) c.self.view_is ∙ roomed in
     let items_are : c.deref.result.now ≡ c.args.wanted.items = c.deref.ensures.0 in
     let asked = asked-alike now.store.layout c.layout.result.now c.args.wanted.items c.deref.result.now now.machine_room inside.machine_room _ c.mount_all.new.self layout_is items_are room_is c.in-Taken.ensures.taking c.in-Taken.ensures.behind in
     ap (λ (t : MountTable). held_at t c.args.initiator) (ap (λ (s : DeskView g.row.D.Denot). s.machine_room.mounts) c.self-in-Taken.view_is ∙ c.carry_out_with.ensures.mounts)
@@ -145,26 +140,25 @@ unmounted-requires-clause-ends g c κs within =
     let d = g.D.Disk in
     let now = c.args.self.now in
     let laws = g.met.D.Disk g.world.𝓛 g.world.𝓜 g.world.𝓡 ((λ s x. x), (λ x. x), (λ x. x), λ x. x) in
-    let sound = subst (λ (s : DeskView g.row.D.Denot). IsSound d.content d.may_leave d.size s.store) c.self.view_is c.layout-layout.ensures.sound in
     let mid = c.memory_for.new.self in
     let e = c.memory_for.ensures in
     let is = as-before d.content d.may_leave now mid d.told (same-unchanged d.content d.may_leave now mid e.jobs e.store) in
     let sized = ap (λ (s : StoreView g.row.D.Denot). d.size s.disk) e.store in
     let since = same-left d.moment d.left_since now.store mid.store (λ image. OpensSame d.content d.size now image × d.may_leave now.store.disk image) e.store
-    (now-left d.told d.content d.may_leave d.moment d.left_since d.size now sound c.requires.is_open (laws.only_now now.store.disk)) in
+    (now-left d.told d.content d.may_leave d.moment d.left_since d.size now c.requires.sound c.requires.is_open (laws.only_now now.store.disk)) in
     let roomed = e.machine_room in
     let tables = e.jobs.tables in
     let layouts = ap (λ (s : StoreView g.row.D.Denot). s.layout) e.store in
-    let inside : DeskView g.row.D.Denot = record { store = c.self-2.inside.store; jobs = c.self-2.inside.jobs; machine_room = c.self-2.inside.machine_room } in
-    let layout_is : c.layout.result.now ≡ now.store.layout = c.layout.ensures.layout ∙ ap (λ (s : DeskView g.row.D.Denot). s.store.layout) c.self-2.view_is ∙ layouts in
-    let room_is : inside.machine_room ≡ now.machine_room = ap (λ (s : DeskView g.row.D.Denot). s.machine_room) c.self-2.view_is ∙ roomed in
+    let inside : DeskView g.row.D.Denot = record { store = c.self.inside.store; jobs = c.self.inside.jobs; machine_room = c.self.inside.machine_room } in
+    let layout_is : c.layout.result.now ≡ now.store.layout = c.layout.ensures.layout ∙ ap (λ (s : DeskView g.row.D.Denot). s.store.layout) c.self.view_is ∙ layouts in
+    let room_is : inside.machine_room ≡ now.machine_room = ap (λ (s : DeskView g.row.D.Denot). s.machine_room) c.self.view_is ∙ roomed in
     let items_are : c.deref.result.now ≡ c.args.wanted.items = c.deref.ensures.0 in
     let asked = asked-alike now.store.layout c.layout.result.now c.args.wanted.items c.deref.result.now now.machine_room inside.machine_room _ c.mount_all.new.self layout_is items_are room_is c.mount_all.ensures.taking c.mount_all.ensures.behind in
     let m = c.requires.to_mount in
-    let wants : wanting inside.jobs.tables.desk c.args.plan ≡ Some m.step = ap (λ (s : DeskView g.row.D.Denot). wanting s.jobs.tables.desk c.args.plan) c.self-2.view_is ∙ ap (λ (t : TablesModel). wanting t c.args.plan) tables ∙ m.wanting_is in
-    let memory = subst (λ (s : DeskView g.row.D.Denot). HasMemoryFor c.in-Some.run' c.args.plan s c.in_ok-prepared.prepared) (sym c.self-2.view_is) c.in_ok-prepared.ensures.memory in
+    let wants : wanting inside.jobs.tables.desk c.args.plan ≡ Some m.step = ap (λ (s : DeskView g.row.D.Denot). wanting s.jobs.tables.desk c.args.plan) c.self.view_is ∙ ap (λ (t : TablesModel). wanting t c.args.plan) tables ∙ m.wanting_is in
+    let memory = subst (λ (s : DeskView g.row.D.Denot). HasMemoryFor c.in-Some.run' c.args.plan s c.in_ok-prepared.prepared) (sym c.self.view_is) c.in_ok-prepared.ensures.memory in
     let row_at = run-wanted inside.jobs.tables.desk c.args.plan m.step c.in-Some.run' wants (sym c.in-Some.is ∙ c.run_wanting.ensures) in
-    let layout_then : inside.store.layout ≡ now.store.layout = ap (λ (s : DeskView g.row.D.Denot). s.store.layout) c.self-2.view_is ∙ layouts in
+    let layout_then : inside.store.layout ≡ now.store.layout = ap (λ (s : DeskView g.row.D.Denot). s.store.layout) c.self.view_is ∙ layouts in
     let may = asked-may now.store.layout c.args.wanted.items now.machine_room _ c.mount_all.new.self asked m.fits in
     ends-unmounted inside.store.layout inside.jobs c.args.plan m.step wants (memory.ends m.step.row row_at) c.mount_all.result
     (subst (λ (v : List _). MayCome v c.mount_all.result) (m.volumes_are ∙ ap (λ (l : Layout). volumes_of l m.step) (sym layout_then)) may) c.in_default-mount_all.not-Taken
@@ -174,27 +168,26 @@ returns-in_ok-reply-in-Taken-clause-attended g c turn its p at =
     let d = g.D.Disk in
     let now = c.args.self.now in
     let laws = g.met.D.Disk g.world.𝓛 g.world.𝓜 g.world.𝓡 ((λ s x. x), (λ x. x), (λ x. x), λ x. x) in
-    let sound = subst (λ (s : DeskView g.row.D.Denot). IsSound d.content d.may_leave d.size s.store) c.self.view_is c.layout-layout.ensures.sound in
     let mid = c.memory_for.new.self in
     let e = c.memory_for.ensures in
     let is = as-before d.content d.may_leave now mid d.told (same-unchanged d.content d.may_leave now mid e.jobs e.store) in
     let sized = ap (λ (s : StoreView g.row.D.Denot). d.size s.disk) e.store in
     let since = same-left d.moment d.left_since now.store mid.store (λ image. OpensSame d.content d.size now image × d.may_leave now.store.disk image) e.store
-    (now-left d.told d.content d.may_leave d.moment d.left_since d.size now sound c.requires.is_open (laws.only_now now.store.disk)) in
+    (now-left d.told d.content d.may_leave d.moment d.left_since d.size now c.requires.sound c.requires.is_open (laws.only_now now.store.disk)) in
     let roomed = e.machine_room in
     let tables = e.jobs.tables in
     let layouts = ap (λ (s : StoreView g.row.D.Denot). s.layout) e.store in
-    let inside : DeskView g.row.D.Denot = record { store = c.self-2.inside.store; jobs = c.self-2.inside.jobs; machine_room = c.self-2.inside.machine_room } in
-    let layout_is : c.layout.result.now ≡ now.store.layout = c.layout.ensures.layout ∙ ap (λ (s : DeskView g.row.D.Denot). s.store.layout) c.self-2.view_is ∙ layouts in
-    let room_is : inside.machine_room ≡ now.machine_room = ap (λ (s : DeskView g.row.D.Denot). s.machine_room) c.self-2.view_is ∙ roomed in
+    let inside : DeskView g.row.D.Denot = record { store = c.self.inside.store; jobs = c.self.inside.jobs; machine_room = c.self.inside.machine_room } in
+    let layout_is : c.layout.result.now ≡ now.store.layout = c.layout.ensures.layout ∙ ap (λ (s : DeskView g.row.D.Denot). s.store.layout) c.self.view_is ∙ layouts in
+    let room_is : inside.machine_room ≡ now.machine_room = ap (λ (s : DeskView g.row.D.Denot). s.machine_room) c.self.view_is ∙ roomed in
     let items_are : c.deref.result.now ≡ c.args.wanted.items = c.deref.ensures.0 in
     let asked = asked-alike now.store.layout c.layout.result.now c.args.wanted.items c.deref.result.now now.machine_room inside.machine_room _ c.mount_all.new.self layout_is items_are room_is c.in-Taken.ensures.taking c.in-Taken.ensures.behind in
     let m = subst (λ i. IsToMount now.store.layout now.jobs now.machine_room i c.args.plan c.args.wanted.items) (sym its) c.requires.to_mount in
-    let q = asked-planned d.told d.content d.may_leave d.moment d.left_since d.size now mid inside is sized since c.self-2.view_is c.mount_all.new.self (untaken turn) c.args.plan p in
-    let there = asked-at d.told d.content d.may_leave d.moment d.left_since d.size now mid inside is sized since c.self-2.view_is c.mount_all.new.self (ap (λ (s : DeskView g.row.D.Denot). s.jobs.points) c.self-2.view_is ∙ e.jobs.points) c.args.plan at in
+    let q = asked-planned d.told d.content d.may_leave d.moment d.left_since d.size now mid inside is sized since c.self.view_is c.mount_all.new.self (untaken turn) c.args.plan p in
+    let there = asked-at d.told d.content d.may_leave d.moment d.left_since d.size now mid inside is sized since c.self.view_is c.mount_all.new.self (ap (λ (s : DeskView g.row.D.Denot). s.jobs.points) c.self.view_is ∙ e.jobs.points) c.args.plan at in
     let then : DeskView g.row.D.Denot = record { store = c.self-in-Taken.inside.store; jobs = c.self-in-Taken.inside.jobs; machine_room = c.self-in-Taken.inside.machine_room } in
     let reply = c.in_ok-reply-in-Taken.reply in
-    mount-done d.told d.content d.may_leave d.moment d.left_since d.size now mid inside is sized since c.self-2.view_is turn c.args.plan c.args.wanted.items p m _ c.mount_all.new.self asked refl then c.take.new.self
+    mount-done d.told d.content d.may_leave d.moment d.left_since d.size now mid inside is sized since c.self.view_is turn c.args.plan c.args.wanted.items p m _ c.mount_all.new.self asked refl then c.take.new.self
     (c.take.ensures ∙ ap (λ i. record then.machine_room { mounts = with_held i c.args.wanted.items then.machine_room.mounts }) (sym its)) reply
     (subst (λ (s : DeskView g.row.D.Denot). HasTurned d.told d.content d.may_leave d.moment d.left_since d.size (untaken turn) (restart_answer c.mount_all.new.self.operator) (record inside { machine_room = c.mount_all.new.self }) s (Ok reply)) (sym c.self-in-Taken.view_is) (c.in_ok-reply-in-Taken.ensures.turned (untaken turn) q there))
     (ap (λ (s : DeskView g.row.D.Denot). s.machine_room) c.self-in-Taken.view_is ∙ c.in_ok-reply-in-Taken.ensures.answered (untaken turn) q)
@@ -204,22 +197,21 @@ returns-in_default-mount_all-clause-attended g c turn its p at =
     let d = g.D.Disk in
     let now = c.args.self.now in
     let laws = g.met.D.Disk g.world.𝓛 g.world.𝓜 g.world.𝓡 ((λ s x. x), (λ x. x), (λ x. x), λ x. x) in
-    let sound = subst (λ (s : DeskView g.row.D.Denot). IsSound d.content d.may_leave d.size s.store) c.self.view_is c.layout-layout.ensures.sound in
     let mid = c.memory_for.new.self in
     let e = c.memory_for.ensures in
     let is = as-before d.content d.may_leave now mid d.told (same-unchanged d.content d.may_leave now mid e.jobs e.store) in
     let sized = ap (λ (s : StoreView g.row.D.Denot). d.size s.disk) e.store in
     let since = same-left d.moment d.left_since now.store mid.store (λ image. OpensSame d.content d.size now image × d.may_leave now.store.disk image) e.store
-    (now-left d.told d.content d.may_leave d.moment d.left_since d.size now sound c.requires.is_open (laws.only_now now.store.disk)) in
+    (now-left d.told d.content d.may_leave d.moment d.left_since d.size now c.requires.sound c.requires.is_open (laws.only_now now.store.disk)) in
     let roomed = e.machine_room in
     let tables = e.jobs.tables in
     let layouts = ap (λ (s : StoreView g.row.D.Denot). s.layout) e.store in
-    let inside : DeskView g.row.D.Denot = record { store = c.self-2.inside.store; jobs = c.self-2.inside.jobs; machine_room = c.self-2.inside.machine_room } in
-    let layout_is : c.layout.result.now ≡ now.store.layout = c.layout.ensures.layout ∙ ap (λ (s : DeskView g.row.D.Denot). s.store.layout) c.self-2.view_is ∙ layouts in
-    let room_is : inside.machine_room ≡ now.machine_room = ap (λ (s : DeskView g.row.D.Denot). s.machine_room) c.self-2.view_is ∙ roomed in
+    let inside : DeskView g.row.D.Denot = record { store = c.self.inside.store; jobs = c.self.inside.jobs; machine_room = c.self.inside.machine_room } in
+    let layout_is : c.layout.result.now ≡ now.store.layout = c.layout.ensures.layout ∙ ap (λ (s : DeskView g.row.D.Denot). s.store.layout) c.self.view_is ∙ layouts in
+    let room_is : inside.machine_room ≡ now.machine_room = ap (λ (s : DeskView g.row.D.Denot). s.machine_room) c.self.view_is ∙ roomed in
     let items_are : c.deref.result.now ≡ c.args.wanted.items = c.deref.ensures.0 in
     let asked = asked-alike now.store.layout c.layout.result.now c.args.wanted.items c.deref.result.now now.machine_room inside.machine_room _ c.mount_all.new.self layout_is items_are room_is c.mount_all.ensures.taking c.mount_all.ensures.behind in
     let m = subst (λ i. IsToMount now.store.layout now.jobs now.machine_room i c.args.plan c.args.wanted.items) (sym its) c.requires.to_mount in
-    let q = asked-planned d.told d.content d.may_leave d.moment d.left_since d.size now mid inside is sized since c.self-2.view_is c.mount_all.new.self (untaken turn) c.args.plan p in
+    let q = asked-planned d.told d.content d.may_leave d.moment d.left_since d.size now mid inside is sized since c.self.view_is c.mount_all.new.self (untaken turn) c.args.plan p in
     let u = c.unmounted.ensures in
-    mount-refused d.told d.content d.may_leave d.moment d.left_since d.size now mid inside is sized since c.self-2.view_is turn c.args.plan c.args.wanted.items p m c.mount_all.result c.mount_all.new.self asked c.in_default-mount_all.not-Taken c.unmounted.new.self c.unmounted.result u.memory (u.turned turn q) (u.unasked turn q) u.machine_room
+    mount-refused d.told d.content d.may_leave d.moment d.left_since d.size now mid inside is sized since c.self.view_is turn c.args.plan c.args.wanted.items p m c.mount_all.result c.mount_all.new.self asked c.in_default-mount_all.not-Taken c.unmounted.new.self c.unmounted.result u.memory (u.turned turn q) (u.unasked turn q) u.machine_room

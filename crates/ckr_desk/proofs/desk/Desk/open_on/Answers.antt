@@ -2,12 +2,12 @@ use Rattle.std.proofs.Common.{[], ap, inl, inr, subst, sym}
 use Rattle.ckr_base.proofs.Results.{err-holds}
 use Rattle.ckr_outside.specs.Faults.{Rose}
 use Rattle.ckr_desk_store.specs.OpenImages.{event_records}
-use Rattle.ckr_desk_store.specs.State.{IsSound, StoreView}
+use Rattle.ckr_desk_store.specs.State.{StoreView}
 use Rattle.ckr_volumes.specs.declared.layout.Layout.{Layout}
 use Rattle.ckr_desk.proofs.Openings.Trust.{IsOpened, IsRead, IsReadAs, WritesAgain, desk-cause, kept-opening, opened-by, opens-again, opens-desk, trusted-opened}
 use Rattle.ckr_desk.specs.FirstSync.{FromSync, IsLeft}
 use Rattle.ckr_desk.specs.Soundness.{AllSound, HasKept}
-use Rattle.ckr_desk.specs.State.{DeskView, opened_of}
+use Rattle.ckr_desk.specs.State.{opened_of}
 use Rattle.ckr_desk.proofs.desk.Desk.open_on.Goals as goal
 
 pub returns-in_err-desk-clause-cause : goal.returns-in_err-desk-clause-cause
@@ -42,7 +42,7 @@ returns-in-Ok-clause-opened g c all =
     }
     in
     let is : IsOpened d.told d.content d.may_leave d.size c.args.disk c.write_again.new.self there.last =
-    opened-by d.told d.content d.may_leave d.size c.args.disk there.desk c.write_again.new.self there.last read wrote (subst (λ (s : DeskView _). IsSound d.content d.may_leave d.size s.store) c.desk.view_is c.layout-layout.ensures.sound)
+    opened-by d.told d.content d.may_leave d.size c.args.disk there.desk c.write_again.new.self there.last read wrote c.in-Ok.ensures.sound
     in
     opens-desk d.told d.content d.may_leave d.size c.args.disk c.write_again.new.self there.last all.tells
     (all.sound (d.content c.args.disk) (laws.reads_an_image c.args.disk all.tells)) is (laws.reads_an_image c.write_again.new.self.store.disk all.tells)
@@ -73,7 +73,7 @@ returns-in-Ok-clause-trusted g c all =
     }
     in
     let is : IsOpened d.told d.content d.may_leave d.size c.args.disk c.write_again.new.self there.last =
-    opened-by d.told d.content d.may_leave d.size c.args.disk there.desk c.write_again.new.self there.last read wrote (subst (λ (s : DeskView _). IsSound d.content d.may_leave d.size s.store) c.desk.view_is c.layout-layout.ensures.sound)
+    opened-by d.told d.content d.may_leave d.size c.args.disk there.desk c.write_again.new.self there.last read wrote c.in-Ok.ensures.sound
     in
     trusted-opened d.told d.content d.may_leave d.size c.args.disk c.write_again.new.self there.last all.tells
     (all.sound (d.content c.args.disk) (laws.reads_an_image c.args.disk all.tells)) is (laws.reads_an_image c.write_again.new.self.store.disk all.tells)
@@ -104,7 +104,7 @@ returns-in-Ok-clause-events g c all =
     }
     in
     let is : IsOpened d.told d.content d.may_leave d.size c.args.disk c.write_again.new.self there.last =
-    opened-by d.told d.content d.may_leave d.size c.args.disk there.desk c.write_again.new.self there.last read wrote (subst (λ (s : DeskView _). IsSound d.content d.may_leave d.size s.store) c.desk.view_is c.layout-layout.ensures.sound)
+    opened-by d.told d.content d.may_leave d.size c.args.disk there.desk c.write_again.new.self there.last read wrote c.in-Ok.ensures.sound
     in
     opens-again d.told d.content d.may_leave d.size c.args.disk c.write_again.new.self there.last all.tells
     (all.sound (d.content c.args.disk) (laws.reads_an_image c.args.disk all.tells)) is (laws.reads_an_image c.write_again.new.self.store.disk all.tells)

@@ -27,14 +27,22 @@ use Rattle.ckr_desk.proofs.desk.Desk.open_turn.Goals as goal
 
 pub invariant_of-self : goal.invariant_of-self
 invariant_of-self g c =
-    kept-stay c.self.inside.store.layout c.self.inside.store.layout c.self.inside.jobs c.plan.new.self refl c.plan.ensures.tables c.plan.ensures.running c.plan.ensures.failed c.plan.ensures.points c.self.invariant
+    record {
+      jobs =
+          kept-stay c.self.inside.store.layout c.self.inside.store.layout c.self.inside.jobs c.plan.new.self refl c.plan.ensures.tables c.plan.ensures.running c.plan.ensures.failed c.plan.ensures.points c.self.invariant.jobs;
+      store = c.self.invariant.store;
+    }
 
 pub invariant_of-self-2 : goal.invariant_of-self-2
 invariant_of-self-2 g c =
-    kept-stay c.self.inside.store.layout c.self.inside.store.layout c.self.inside.jobs c.plan.new.self refl c.plan.ensures.tables c.plan.ensures.running c.plan.ensures.failed c.plan.ensures.points c.self.invariant
+    record {
+      jobs =
+          kept-stay c.self.inside.store.layout c.self.inside.store.layout c.self.inside.jobs c.plan.new.self refl c.plan.ensures.tables c.plan.ensures.running c.plan.ensures.failed c.plan.ensures.points c.self.invariant.jobs;
+      store = c.self.invariant.store;
+    }
 
 pub unit_due-requires : goal.unit_due-requires
-unit_due-requires g c = c.self.invariant.are.rows
+unit_due-requires g c = c.self.invariant.jobs.are.rows
 
 pub work-requires-clause-due : goal.work-requires-clause-due
 work-requires-clause-due g c κs within =
@@ -74,7 +82,7 @@ returns-in_err-planned-clause-attended g c =
     let laws = g.met.D.Disk g.world.𝓛 g.world.𝓜 g.world.𝓡 ((λ s x. x), (λ x. x), (λ x. x), λ x. x) in
     let is_open = ap (λ (s : DeskView g.row.D.Denot). s.store.fault) c.self.view_is ∙ c.requires.is_open in
     let first : IsAsBefore d.told d.content d.may_leave old one = record { jobs = stayed; layout = refl; room = refl; reads = refl; none_new = λ image may. may } in
-    let at_once = now-left d.told d.content d.may_leave d.moment d.left_since d.size old c.layout-layout.ensures.sound is_open (laws.only_now old.store.disk) in
+    let at_once = now-left d.told d.content d.may_leave d.moment d.left_since d.size old c.self.invariant.store is_open (laws.only_now old.store.disk) in
     let its = subst (λ (s : DeskView g.row.D.Denot). IsMountedTurnOf s.store.layout turn) (sym c.self.view_is) c.requires.initiator in
     let same = taken-stays old.store.layout (jobs_of old.jobs).tables (plan_of old.store.layout (jobs_of old.jobs) c.args.turn) in
     let plan = plan_of old.store.layout (jobs_of old.jobs) c.args.turn in
@@ -96,7 +104,7 @@ returns-in_err-plan-clause-attended g c =
     let laws = g.met.D.Disk g.world.𝓛 g.world.𝓜 g.world.𝓡 ((λ s x. x), (λ x. x), (λ x. x), λ x. x) in
     let is_open = ap (λ (s : DeskView g.row.D.Denot). s.store.fault) c.self.view_is ∙ c.requires.is_open in
     let first : IsAsBefore d.told d.content d.may_leave old one = record { jobs = stayed; layout = refl; room = refl; reads = refl; none_new = λ image may. may } in
-    let at_once = now-left d.told d.content d.may_leave d.moment d.left_since d.size old c.layout-layout.ensures.sound is_open (laws.only_now old.store.disk) in
+    let at_once = now-left d.told d.content d.may_leave d.moment d.left_since d.size old c.self.invariant.store is_open (laws.only_now old.store.disk) in
     let its = subst (λ (s : DeskView g.row.D.Denot). IsMountedTurnOf s.store.layout turn) (sym c.self.view_is) c.requires.initiator in
     let same = taken-stays old.store.layout (jobs_of old.jobs).tables (plan_of old.store.layout (jobs_of old.jobs) c.args.turn) in
     let mid : DeskView g.row.D.Denot = c.judged.new.self in
@@ -116,7 +124,7 @@ returns-in_err-plan-clause-attended g c =
       none_new = c.judged.ensures.only_reads.none_new;
     }
     in
-    let since = read-left d.told d.content d.may_leave d.moment d.left_since d.size old mid.store.disk c.layout-layout.ensures.sound is_open c.judged.ensures.only_reads in
+    let since = read-left d.told d.content d.may_leave d.moment d.left_since d.size old mid.store.disk c.self.invariant.store is_open c.judged.ensures.only_reads in
     let plan = plan_of old.store.layout (jobs_of old.jobs) c.args.turn in
     let error = c.in_err-plan.field-0.0 in
     rw (← c.self.view_is)
@@ -140,7 +148,7 @@ returns-clause-attended g c =
     let laws = g.met.D.Disk g.world.𝓛 g.world.𝓜 g.world.𝓡 ((λ s x. x), (λ x. x), (λ x. x), λ x. x) in
     let is_open = ap (λ (s : DeskView g.row.D.Denot). s.store.fault) c.self.view_is ∙ c.requires.is_open in
     let first : IsAsBefore d.told d.content d.may_leave old one = record { jobs = stayed; layout = refl; room = refl; reads = refl; none_new = λ image may. may } in
-    let at_once = now-left d.told d.content d.may_leave d.moment d.left_since d.size old c.layout-layout.ensures.sound is_open (laws.only_now old.store.disk) in
+    let at_once = now-left d.told d.content d.may_leave d.moment d.left_since d.size old c.self.invariant.store is_open (laws.only_now old.store.disk) in
     let its = subst (λ (s : DeskView g.row.D.Denot). IsMountedTurnOf s.store.layout turn) (sym c.self.view_is) c.requires.initiator in
     let same = taken-stays old.store.layout (jobs_of old.jobs).tables (plan_of old.store.layout (jobs_of old.jobs) c.args.turn) in
     let mid : DeskView g.row.D.Denot = c.judged.new.self in
@@ -160,7 +168,7 @@ returns-clause-attended g c =
       none_new = c.judged.ensures.only_reads.none_new;
     }
     in
-    let since = read-left d.told d.content d.may_leave d.moment d.left_since d.size old mid.store.disk c.layout-layout.ensures.sound is_open c.judged.ensures.only_reads in
+    let since = read-left d.told d.content d.may_leave d.moment d.left_since d.size old mid.store.disk c.self.invariant.store is_open c.judged.ensures.only_reads in
     let planned = c.in_ok-planned.planned in
     rw (← c.self.view_is)
     (λ trusted.

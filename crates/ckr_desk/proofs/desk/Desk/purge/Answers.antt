@@ -1,5 +1,3 @@
-use Rattle.std.proofs.Common.{subst}
-use Rattle.ckr_desk_store.specs.State.{IsSound}
 use Rattle.ckr_desk.proofs.Calls.Requests.{call-cause, call-fits, call-full, call-kept-by, call-may-fail, call-open, call-state, call-stays, call-told, call-trusted, if-err, on-ok, on-ok-all, on-ok-both, purge-called}
 use Rattle.ckr_desk.specs.Submit.{purge_call}
 use Rattle.ckr_desk.proofs.desk.Desk.purge.Goals as goal
@@ -43,7 +41,7 @@ returns-clause-kept g c is_open trusted =
     let its = purge-called d.told d.content d.may_leave d.size now trusted c.args.job c.ranges.job.fits in
     let laws = g.met.D.Disk g.world.𝓛 g.world.𝓜 g.world.𝓡 ((λ s x. x), (λ x. x), (λ x. x), λ x. x) in
     call-kept-by d.told d.content d.may_leave d.size now trusted d.moment d.left_since
-    (subst (λ s. IsSound d.content d.may_leave d.size s.store) c.self.view_is c.layout-layout.ensures.sound) is_open d.faults c.take_out.new.self call c.take_out.result its (laws.only_now now.store.disk)
+    c.take_out.ensures.sound is_open d.faults c.take_out.new.self call c.take_out.result its (laws.only_now now.store.disk)
     (c.take_out.ensures.left is_open) c.take_out.ensures.cause
 
 pub returns-clause-told : goal.returns-clause-told

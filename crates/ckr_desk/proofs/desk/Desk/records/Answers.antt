@@ -16,7 +16,7 @@ use Rattle.ckr_desk.proofs.desk.Desk.records.Goals as goal
 
 pub read_all-requires-clause-stands : goal.read_all-requires-clause-stands
 read_all-requires-clause-stands g c κs within =
-    free-stands c.self.inside.store.layout c.self.inside.jobs.tables.desk c.args.name.now c.in-Some-free_set.set.now c.self.invariant.are.laid.stand
+    free-stands c.self.inside.store.layout c.self.inside.jobs.tables.desk c.args.name.now c.in-Some-free_set.set.now c.self.invariant.jobs.are.laid.stand
     (sym c.free_set.ensures.set ∙ ap option_copied c.in-Some-free_set.is)
 
 pub returns-in_ok-read_all-in-Some-free_set-clause-records : goal.returns-in_ok-read_all-in-Some-free_set-clause-records
@@ -32,14 +32,14 @@ returns-in_ok-read_all-in-Some-free_set-clause-kept g c is_open trusted =
     let d = g.D.Disk in
     let now = c.args.self.now in
     reading-kept d.told d.content d.may_leave d.size now trusted d.moment d.left_since
-    (subst (λ s. IsSound d.content d.may_leave d.size s.store) c.self.view_is c.layout-layout.ensures.sound) is_open (record { store = c.read_all.new.store; jobs = c.self.inside.jobs; machine_room = c.self.inside.machine_room }) (subst (λ s. EachSince d.moment d.left_since s.store.disk c.read_all.new.store.disk (d.may_leave s.store.disk)) c.self.view_is c.read_all.ensures.only_reads.since)
+    (subst (λ s. IsSound d.content d.may_leave d.size s.store) c.self.view_is c.self.invariant.store) is_open (record { store = c.read_all.new.store; jobs = c.self.inside.jobs; machine_room = c.self.inside.machine_room }) (subst (λ s. EachSince d.moment d.left_since s.store.disk c.read_all.new.store.disk (d.may_leave s.store.disk)) c.self.view_is c.read_all.ensures.only_reads.since)
 
 pub returns-in_err-read_all-in-Some-free_set-clause-kept : goal.returns-in_err-read_all-in-Some-free_set-clause-kept
 returns-in_err-read_all-in-Some-free_set-clause-kept g c is_open trusted =
     let d = g.D.Disk in
     let now = c.args.self.now in
     reading-kept d.told d.content d.may_leave d.size now trusted d.moment d.left_since
-    (subst (λ s. IsSound d.content d.may_leave d.size s.store) c.self.view_is c.layout-layout.ensures.sound) is_open (record { store = c.read_all.new.store; jobs = c.self.inside.jobs; machine_room = c.self.inside.machine_room }) (subst (λ s. EachSince d.moment d.left_since s.store.disk c.read_all.new.store.disk (d.may_leave s.store.disk)) c.self.view_is c.read_all.ensures.only_reads.since)
+    (subst (λ s. IsSound d.content d.may_leave d.size s.store) c.self.view_is c.self.invariant.store) is_open (record { store = c.read_all.new.store; jobs = c.self.inside.jobs; machine_room = c.self.inside.machine_room }) (subst (λ s. EachSince d.moment d.left_since s.store.disk c.read_all.new.store.disk (d.may_leave s.store.disk)) c.self.view_is c.read_all.ensures.only_reads.since)
 
 pub returns-in-None-clause-records : goal.returns-in-None-clause-records
 returns-in-None-clause-records g c trusted =
@@ -57,7 +57,7 @@ returns-in-None-clause-kept g c is_open trusted =
     let now = c.args.self.now in
     let laws = g.met.D.Disk g.world.𝓛 g.world.𝓜 g.world.𝓡 ((λ s x. x), (λ x. x), (λ x. x), λ x. x) in
     none-kept d.told d.content d.may_leave d.size now trusted d.moment d.left_since
-    (subst (λ s. IsSound d.content d.may_leave d.size s.store) c.self.view_is c.layout-layout.ensures.sound) is_open (laws.only_now now.store.disk)
+    (subst (λ s. IsSound d.content d.may_leave d.size s.store) c.self.view_is c.self.invariant.store) is_open (laws.only_now now.store.disk)
 
 pub returns-in_ok-read_all-in-Some-free_set-clause-comes : goal.returns-in_ok-read_all-in-Some-free_set-clause-comes
 returns-in_ok-read_all-in-Some-free_set-clause-comes g c trusted =

@@ -38,7 +38,7 @@ write_record-requires-clause-image g c κs within =
 
 pub write_record-requires-clause-stands : goal.write_record-requires-clause-stands
 write_record-requires-clause-stands g c κs within =
-    set-stands c.self.inside.store.layout c.library.result.now c.self.inside.jobs.tables.desk.sets c.in-Some.name c.in-Some-get.set.now c.library.ensures.sets (sym c.in-Some-get.ensures) c.self.invariant.are.laid.stand
+    set-stands c.self.inside.store.layout c.library.result.now c.self.inside.jobs.tables.desk.sets c.in-Some.name c.in-Some-get.set.now c.library.ensures.sets (sym c.in-Some-get.ensures) c.self.invariant.jobs.are.laid.stand
 
 pub returns-in_err-write_record-clause-left : goal.returns-in_err-write_record-clause-left
 returns-in_err-write_record-clause-left g c =
@@ -47,7 +47,7 @@ returns-in_err-write_record-clause-left g c =
     let layout = c.self.inside.store.layout in
     let tables = c.self.inside.jobs.tables.desk in
     let set = c.in-Some-get.set.now in
-    let stands = set-stands layout c.library.result.now tables.sets c.in-Some.name set c.library.ensures.sets (sym c.in-Some-get.ensures) c.self.invariant.are.laid.stand in
+    let stands = set-stands layout c.library.result.now tables.sets c.in-Some.name set c.library.ensures.sets (sym c.in-Some-get.ensures) c.self.invariant.jobs.are.laid.stand in
     let is_open = ap (λ s. s.store.fault) c.self.view_is ∙ c.requires.is_open in
     rw (← c.self.view_is)
     (λ only.
@@ -56,7 +56,7 @@ returns-in_err-write_record-clause-left g c =
     (λ image same.
     lacks-most layout tables w.job w.taken w.writes w.place w.lengths w.image c.args.event.now w.is c.in-Some.name (λ row at. sym (c.updated.ensures row at) ∙ c.in-Some.is)
     c.library.result.now c.library.ensures.sets set (sym c.in-Some-get.ensures) _ image
-    (differs-so layout c.layout-layout.ensures.sound.laid set stands w.place (place-there layout tables w.job w.taken w.writes w.place w.lengths w.image c.args.event.now w.is c.in-Some.name (λ row at. sym (c.updated.ensures row at) ∙ c.in-Some.is) c.library.result.now c.library.ensures.sets set (sym c.in-Some-get.ensures)
+    (differs-so layout c.self.invariant.store.laid set stands w.place (place-there layout tables w.job w.taken w.writes w.place w.lengths w.image c.args.event.now w.is c.in-Some.name (λ row at. sym (c.updated.ensures row at) ∙ c.in-Some.is) c.library.result.now c.library.ensures.sets set (sym c.in-Some-get.ensures)
     (subst (λ (s : DeskView g.row.D.Denot). HasRecordPlace c.args.event.now s.jobs.tables.desk) (sym c.self.view_is) c.requires.place)) _ image same)))
 
 pub returns-clause-written : goal.returns-clause-written
@@ -79,7 +79,7 @@ returns-clause-left g c =
     let layout = c.self.inside.store.layout in
     let tables = c.self.inside.jobs.tables.desk in
     let set = c.in-Some-get.set.now in
-    let stands = set-stands layout c.library.result.now tables.sets c.in-Some.name set c.library.ensures.sets (sym c.in-Some-get.ensures) c.self.invariant.are.laid.stand in
+    let stands = set-stands layout c.library.result.now tables.sets c.in-Some.name set c.library.ensures.sets (sym c.in-Some-get.ensures) c.self.invariant.jobs.are.laid.stand in
     let is_open = ap (λ s. s.store.fault) c.self.view_is ∙ c.requires.is_open in
     rw (← c.self.view_is)
     (λ only.
@@ -88,7 +88,7 @@ returns-clause-left g c =
     (λ image same.
     lacks-most layout tables w.job w.taken w.writes w.place w.lengths w.image c.args.event.now w.is c.in-Some.name (λ row at. sym (c.updated.ensures row at) ∙ c.in-Some.is)
     c.library.result.now c.library.ensures.sets set (sym c.in-Some-get.ensures) _ image
-    (differs-so layout c.layout-layout.ensures.sound.laid set stands w.place (place-there layout tables w.job w.taken w.writes w.place w.lengths w.image c.args.event.now w.is c.in-Some.name (λ row at. sym (c.updated.ensures row at) ∙ c.in-Some.is) c.library.result.now c.library.ensures.sets set (sym c.in-Some-get.ensures)
+    (differs-so layout c.self.invariant.store.laid set stands w.place (place-there layout tables w.job w.taken w.writes w.place w.lengths w.image c.args.event.now w.is c.in-Some.name (λ row at. sym (c.updated.ensures row at) ∙ c.in-Some.is) c.library.result.now c.library.ensures.sets set (sym c.in-Some-get.ensures)
     (subst (λ (s : DeskView g.row.D.Denot). HasRecordPlace c.args.event.now s.jobs.tables.desk) (sym c.self.view_is) c.requires.place)) _ image same)))
 
 pub returns-clause-pending : goal.returns-clause-pending
@@ -99,7 +99,7 @@ returns-clause-pending g c =
     let layout = c.self.inside.store.layout in
     let tables = c.self.inside.jobs.tables.desk in
     let set = c.in-Some-get.set.now in
-    let stands = set-stands layout c.library.result.now tables.sets c.in-Some.name set c.library.ensures.sets (sym c.in-Some-get.ensures) c.self.invariant.are.laid.stand in
+    let stands = set-stands layout c.library.result.now tables.sets c.in-Some.name set c.library.ensures.sets (sym c.in-Some-get.ensures) c.self.invariant.jobs.are.laid.stand in
     let is_open = ap (λ s. s.store.fault) c.self.view_is ∙ c.requires.is_open in
     rw (← c.self.view_is)
     (λ only.
@@ -109,6 +109,6 @@ returns-clause-pending g c =
     (λ image same.
     lacks-most layout tables w.job w.taken w.writes w.place w.lengths w.image c.args.event.now w.is c.in-Some.name (λ row at. sym (c.updated.ensures row at) ∙ c.in-Some.is)
     c.library.result.now c.library.ensures.sets set (sym c.in-Some-get.ensures) _ image
-    (differs-so layout c.layout-layout.ensures.sound.laid set stands w.place (place-there layout tables w.job w.taken w.writes w.place w.lengths w.image c.args.event.now w.is c.in-Some.name (λ row at. sym (c.updated.ensures row at) ∙ c.in-Some.is) c.library.result.now c.library.ensures.sets set (sym c.in-Some-get.ensures)
+    (differs-so layout c.self.invariant.store.laid set stands w.place (place-there layout tables w.job w.taken w.writes w.place w.lengths w.image c.args.event.now w.is c.in-Some.name (λ row at. sym (c.updated.ensures row at) ∙ c.in-Some.is) c.library.result.now c.library.ensures.sets set (sym c.in-Some-get.ensures)
     (subst (λ (s : DeskView g.row.D.Denot). HasRecordPlace c.args.event.now s.jobs.tables.desk) (sym c.self.view_is) c.requires.place)) _ image same)))
     (laws.counts_now c.write_record.new.self.disk))

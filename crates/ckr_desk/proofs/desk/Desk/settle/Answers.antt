@@ -17,12 +17,20 @@ use Rattle.ckr_desk.proofs.desk.Desk.settle.Goals as goal
 pub invariant_of-self : goal.invariant_of-self
 invariant_of-self g c =
     let e = c.prepare_answers.ensures in
-    kept-stay c.self.inside.store.layout c.self.inside.store.layout c.self.inside.jobs c.prepare_answers.new.self refl e.desk e.running e.failed e.points c.self.invariant
+    record {
+      jobs =
+          kept-stay c.self.inside.store.layout c.self.inside.store.layout c.self.inside.jobs c.prepare_answers.new.self refl e.desk e.running e.failed e.points c.self.invariant.jobs;
+      store = c.self.invariant.store;
+    }
 
 pub invariant_of-self-in-Ask : goal.invariant_of-self-in-Ask
 invariant_of-self-in-Ask g c =
     let e = c.prepare_answers.ensures in
-    kept-stay c.self.inside.store.layout c.self.inside.store.layout c.self.inside.jobs c.prepare_answers.new.self refl e.desk e.running e.failed e.points c.self.invariant
+    record {
+      jobs =
+          kept-stay c.self.inside.store.layout c.self.inside.store.layout c.self.inside.jobs c.prepare_answers.new.self refl e.desk e.running e.failed e.points c.self.invariant.jobs;
+      store = c.self.invariant.store;
+    }
 
 -- ---- the operator is asked
 

@@ -1,5 +1,3 @@
-use Rattle.std.proofs.Common.{subst}
-use Rattle.ckr_desk_store.specs.State.{IsSound}
 use Rattle.ckr_desk.proofs.Calls.Requests.{call-cause, call-fits, call-full, call-kept-by, call-may-fail, call-open, call-state, call-stays, call-told, call-trusted, if-err, on-ok, on-ok-all, on-ok-both, submit-called}
 use Rattle.ckr_desk.proofs.Trust.Counts.{book-limit, trusted-numbered}
 use Rattle.ckr_desk.specs.Submit.{submit_call}
@@ -24,7 +22,7 @@ pub returns-clause-numbered : goal.returns-clause-numbered
 returns-clause-numbered g c trusted =
     let d = g.D.Disk in
     let now = c.args.self.now in
-    let sound = subst (λ s. IsSound d.content d.may_leave d.size s.store) c.self.view_is c.layout-layout.ensures.sound in
+    let sound = c.hand_in.ensures.sound in
     trusted-numbered d.told d.content d.may_leave now trusted (book-limit now.store.layout (d.size now.store.disk) sound.header)
 
 pub returns-clause-keeps : goal.returns-clause-keeps
@@ -51,7 +49,7 @@ returns-clause-kept g c is_open trusted =
     let its = submit-called d.told d.content d.may_leave d.size now trusted c.args.cards.now c.requires.some in
     let laws = g.met.D.Disk g.world.𝓛 g.world.𝓜 g.world.𝓡 ((λ s x. x), (λ x. x), (λ x. x), λ x. x) in
     call-kept-by d.told d.content d.may_leave d.size now trusted d.moment d.left_since
-    (subst (λ s. IsSound d.content d.may_leave d.size s.store) c.self.view_is c.layout-layout.ensures.sound) is_open d.faults c.hand_in.new.self call c.hand_in.result its (laws.only_now now.store.disk)
+    c.hand_in.ensures.sound is_open d.faults c.hand_in.new.self call c.hand_in.result its (laws.only_now now.store.disk)
     (c.hand_in.ensures.left is_open) c.hand_in.ensures.cause
 
 pub returns-clause-told : goal.returns-clause-told

@@ -24,7 +24,7 @@ returns-in-Some-clause-left g c is_open =
     let now = c.args.self.now in
     let laws = g.met.D.Disk g.world.𝓛 g.world.𝓜 g.world.𝓡 ((λ s x. x), (λ x. x), (λ x. x), λ x. x) in
     nothing-left d.told d.content d.may_leave d.moment d.left_since d.size c.args.event.now c.args.deck now
-    (subst (λ s. IsSound d.content d.may_leave d.size s.store) c.self.view_is c.layout-layout.ensures.sound) is_open (laws.only_now now.store.disk)
+    (subst (λ s. IsSound d.content d.may_leave d.size s.store) c.self.view_is c.self.invariant.store) is_open (laws.only_now now.store.disk)
 
 pub returns-in_err-ready-clause-left : goal.returns-in_err-ready-clause-left
 returns-in_err-ready-clause-left g c is_open =
@@ -33,7 +33,7 @@ returns-in_err-ready-clause-left g c is_open =
     let laws = g.met.D.Disk g.world.𝓛 g.world.𝓜 g.world.𝓡 ((λ s x. x), (λ x. x), (λ x. x), λ x. x) in
     same-left d.moment d.left_since now.store c.make_ready.new.self.store (IsLeftBy d.content d.may_leave d.size c.args.event.now c.args.deck now) c.make_ready.ensures.store
     (nothing-left d.told d.content d.may_leave d.moment d.left_since d.size c.args.event.now c.args.deck now
-    (subst (λ s. IsSound d.content d.may_leave d.size s.store) c.self.view_is c.layout-layout.ensures.sound) is_open (laws.only_now now.store.disk))
+    (subst (λ s. IsSound d.content d.may_leave d.size s.store) c.self.view_is c.self.invariant.store) is_open (laws.only_now now.store.disk))
 
 pub returns-in_err-ready-clause-cause : goal.returns-in_err-ready-clause-cause
 returns-in_err-ready-clause-cause g c =
@@ -48,7 +48,7 @@ returns-in_err-shared-clause-left g c is_open =
     let laws = g.met.D.Disk g.world.𝓛 g.world.𝓜 g.world.𝓡 ((λ s x. x), (λ x. x), (λ x. x), λ x. x) in
     same-left d.moment d.left_since now.store c.make_ready.new.self.store (IsLeftBy d.content d.may_leave d.size c.args.event.now c.args.deck now) c.make_ready.ensures.store
     (nothing-left d.told d.content d.may_leave d.moment d.left_since d.size c.args.event.now c.args.deck now
-    (subst (λ s. IsSound d.content d.may_leave d.size s.store) c.self.view_is c.layout-layout.ensures.sound) is_open (laws.only_now now.store.disk))
+    (subst (λ s. IsSound d.content d.may_leave d.size s.store) c.self.view_is c.self.invariant.store) is_open (laws.only_now now.store.disk))
 
 pub returns-in_err-shared-clause-cause : goal.returns-in_err-shared-clause-cause
 returns-in_err-shared-clause-cause g c =

@@ -1,6 +1,6 @@
 use Rattle.std.proofs.Common.{◌≤◌, ◌∙◌, IfErr, Result, Err, ap, sym, subst}
 use Rattle.ckr_book.specs.Book.{room_of}
-use Rattle.ckr_desk_store.specs.State.{IsSound, StoreView}
+use Rattle.ckr_desk_store.specs.State.{StoreView}
 use Rattle.ckr_desk_turn.specs.declared.plan.Plan.TheVariants.{Work}
 use Rattle.ckr_volumes.specs.declared.layout.Layout.{Layout}
 use Rattle.ckr_desk.proofs.Turns.Preparation.{as-before, planned-before, same-unchanged, turned-before, turned-not}
@@ -11,7 +11,7 @@ use Rattle.ckr_desk.proofs.Units.Preparation.{err-is, look-cause, look-takes}
 use Rattle.ckr_desk.proofs.Trust.Counts.{book-short}
 use Rattle.ckr_desk.specs.Requests.{TellsNumbers}
 use Rattle.ckr_desk.specs.Rewrite.{OpensSame}
-use Rattle.ckr_desk.specs.State.{DeskView, MachineRoomView}
+use Rattle.ckr_desk.specs.State.{MachineRoomView}
 use Rattle.ckr_desk.proofs.Turns.Answers.{given-stands, stands-as}
 use Rattle.ckr_desk.proofs.Units.Questions.{asks-ahead, at-step}
 use Rattle.ckr_desk.specs.Preparation.{asks_behind}
@@ -34,15 +34,14 @@ returns-in_err-ahead-clause-turned g c turn p =
     let e = c.look.ensures in
     let is = as-before d.content d.may_leave now new d.told (same-unchanged d.content d.may_leave now new e.jobs e.store) in
     let laws = g.met.D.Disk g.world.𝓛 g.world.𝓜 g.world.𝓡 ((λ s x. x), (λ x. x), (λ x. x), λ x. x) in
-    let sound = subst (λ (s : DeskView g.row.D.Denot). IsSound d.content d.may_leave d.size s.store) c.self.view_is c.layout-layout.ensures.sound in
     let since = same-left d.moment d.left_since now.store new.store (λ image. OpensSame d.content d.size now image × d.may_leave now.store.disk image) e.store
-    (now-left d.told d.content d.may_leave d.moment d.left_since d.size now sound c.requires.is_open (laws.only_now now.store.disk)) in
+    (now-left d.told d.content d.may_leave d.moment d.left_since d.size now c.requires.sound c.requires.is_open (laws.only_now now.store.disk)) in
     let sized = ap (λ (s : StoreView g.row.D.Denot). d.size s.disk) e.store in
     let later = planned-before d.told d.content d.may_leave d.moment d.left_since d.size now new is sized since turn (Work c.args.run) p in
     subst (HasTurned d.told d.content d.may_leave d.moment d.left_since d.size turn (restart_answer now.machine_room.operator) now new) (sym (err-is c.from_residual.result c.in_err-ahead.field-0.0 c.from_residual.ensures.1))
     (turned-not d.told d.content d.may_leave d.moment d.left_since d.size now new is sized since turn (restart_answer now.machine_room.operator) p.trusted c.in_err-ahead.field-0.0
     (look-cause d.told d.content d.may_leave d.moment d.left_since d.size c.args.run (restart_answer now.machine_room.operator) now new turn p later is c.in_err-ahead.field-0.0 c.in_err-ahead.ensures.cause)
-    (look-takes d.told d.content d.may_leave d.moment d.left_since d.size c.args.run (restart_answer now.machine_room.operator) now new turn later is (subst (λ (l : Layout). l.book ≤ 4294967295) (sym (ap (λ (s : StoreView g.row.D.Denot). s.layout) e.store)) (book-short now.store.layout (d.size now.store.disk) sound.header)) c.in_err-ahead.field-0.0 c.in_err-ahead.ensures.cause))
+    (look-takes d.told d.content d.may_leave d.moment d.left_since d.size c.args.run (restart_answer now.machine_room.operator) now new turn later is (subst (λ (l : Layout). l.book ≤ 4294967295) (sym (ap (λ (s : StoreView g.row.D.Denot). s.layout) e.store)) (book-short now.store.layout (d.size now.store.disk) c.requires.sound.header)) c.in_err-ahead.field-0.0 c.in_err-ahead.ensures.cause))
 
 pub returns-clause-turned : goal.returns-clause-turned
 returns-clause-turned g c turn p =
@@ -52,9 +51,8 @@ returns-clause-turned g c turn p =
     let e = c.look.ensures in
     let is = as-before d.content d.may_leave now mid d.told (same-unchanged d.content d.may_leave now mid e.jobs e.store) in
     let laws = g.met.D.Disk g.world.𝓛 g.world.𝓜 g.world.𝓡 ((λ s x. x), (λ x. x), (λ x. x), λ x. x) in
-    let sound = subst (λ (s : DeskView g.row.D.Denot). IsSound d.content d.may_leave d.size s.store) c.self.view_is c.layout-layout.ensures.sound in
     let since = same-left d.moment d.left_since now.store mid.store (λ image. OpensSame d.content d.size now image × d.may_leave now.store.disk image) e.store
-    (now-left d.told d.content d.may_leave d.moment d.left_since d.size now sound c.requires.is_open (laws.only_now now.store.disk)) in
+    (now-left d.told d.content d.may_leave d.moment d.left_since d.size now c.requires.sound c.requires.is_open (laws.only_now now.store.disk)) in
     let sized = ap (λ (s : StoreView g.row.D.Denot). d.size s.disk) e.store in
     turned-before d.told d.content d.may_leave d.moment d.left_since d.size now mid is sized since turn (restart_answer now.machine_room.operator) p.trusted c.work_on.new.self c.work_on.result
     (c.work_on.ensures.turned turn (restart_answer now.machine_room.operator) (planned-before d.told d.content d.may_leave d.moment d.left_since d.size now mid is sized since turn (Work c.args.run) p) c.in_ok-ahead.ensures.ahead)

@@ -21,7 +21,7 @@ told-requires-clause-counted g c =
     out.unit.counted
 
 pub told-requires-clause-short : goal.told-requires-clause-short
-told-requires-clause-short g c name set is = short-so _ _ (c.in-Some.ensures.runnable c.self.inside.store.layout c.self.invariant.are).stored name set is
+told-requires-clause-short g c name set is = short-so _ _ (c.in-Some.ensures.runnable c.self.inside.store.layout c.self.invariant.jobs.are).stored name set is
 
 pub told-requires-clause-code : goal.told-requires-clause-code
 told-requires-clause-code g c =
@@ -39,8 +39,8 @@ returns-clause-told g c =
     let of = subst (λ (s : DeskView g.row.D.Denot). IsWorkedOut d.told d.content c.args.run s unit) (sym c.self.view_is) c.requires.unit in
     let out = out-of d.told d.content c.args.run old unit of (step_seen c.in-Some.on.now) (sym c.in-Some.ensures.step) in
     let on = step_seen c.in-Some.on.now in
-    let runnable = c.in-Some.ensures.runnable c.self.inside.store.layout c.self.invariant.are in
-    let own = c.in-Some.ensures.own c.self.invariant.own in
+    let runnable = c.in-Some.ensures.runnable c.self.inside.store.layout c.self.invariant.jobs.are in
+    let own = c.in-Some.ensures.own c.self.invariant.jobs.own in
     subst (λ (s : DeskView g.row.D.Denot). IsToldByUnit c.args.run s unit c.told.result) c.self.view_is
     (is-told c.args.run old on unit c.told.result (sym c.in-Some.ensures.step)
     (λ row own at within.
@@ -48,5 +48,5 @@ returns-clause-told g c =
     ∙ ap (λ (l : Layout). told_by l c.self.inside.jobs.tables.desk row (running_of c.self.inside.jobs.tables.desk (behind_unit on unit)) unit.worked) c.layout.ensures.layout)
     c.told.ensures.unit c.told.ensures.spelled
     (subst (λ (l : Layout). PlanFollows l c.self.inside.jobs.tables.desk c.told.result) c.layout.ensures.layout
-    (c.told.ensures.own out.heads c.self.invariant.are.placed own (stored-fit c.self.inside.store.layout on.sets runnable.stored) runnable.there out.unit))
+    (c.told.ensures.own out.heads c.self.invariant.jobs.are.placed own (stored-fit c.self.inside.store.layout on.sets runnable.stored) runnable.there out.unit))
     (c.told.ensures.commits own) (c.told.ensures.of_run own))

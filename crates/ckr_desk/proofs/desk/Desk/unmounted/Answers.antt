@@ -23,7 +23,7 @@ use Rattle.ckr_desk.proofs.desk.Desk.unmounted.Goals as goal
 
 pub plan_by-plan-requires-clause-few : goal.plan_by-plan-requires-clause-few
 plan_by-plan-requires-clause-few g c =
-    let sound : IsSound g.D.Disk.content g.D.Disk.may_leave g.D.Disk.size c.self.inside.store = c.layout-layout.ensures.sound in
+    let sound : IsSound g.D.Disk.content g.D.Disk.may_leave g.D.Disk.size c.self.inside.store = c.self.invariant.store in
     subst (λ (l : Layout). length l.volumes.items ≤ 32) (sym c.layout.ensures.layout) (volumes-few c.self.inside.store.layout (g.D.Disk.size c.self.inside.store.disk) sound.header)
 
 -- ---- what it comes to may be told
@@ -82,7 +82,7 @@ carry_out_with-requires-clause-follows g c κs within =
     (c.plan_by-plan.ensures.own
     (subst (λ (l : Layout). PlanFollows l inside.jobs.tables.desk plan) (sym c.layout.ensures.layout)
     (subst (λ (s : DeskView g.row.D.Denot). PlanFollows s.store.layout s.jobs.tables.desk plan) (sym c.self.view_is) c.requires.follows))
-    (subst (λ (s : DeskView g.row.D.Denot). HasDue s.jobs plan) (sym c.self.view_is) c.requires.due) c.self.invariant.own))
+    (subst (λ (s : DeskView g.row.D.Denot). HasDue s.jobs plan) (sym c.self.view_is) c.requires.due) c.self.invariant.jobs.own))
 
 pub carry_out_with-requires-clause-commits : goal.carry_out_with-requires-clause-commits
 carry_out_with-requires-clause-commits g c κs within =

@@ -24,7 +24,7 @@ worked-reply-requires-clause-counted g c =
     out.unit.counted
 
 pub worked-reply-requires-clause-rows : goal.worked-reply-requires-clause-rows
-worked-reply-requires-clause-rows g c = c.self.invariant.are.rows
+worked-reply-requires-clause-rows g c = c.self.invariant.jobs.are.rows
 
 pub done_unit-requires-clause-unit : goal.done_unit-requires-clause-unit
 done_unit-requires-clause-unit g c κs within = c.requires.unit

@@ -1,6 +1,5 @@
 use Rattle.std.proofs.Common.{◌∙◌, IfErr, ap, sym, subst}
 use Rattle.ckr_book.specs.Book.{room_of}
-use Rattle.ckr_desk_store.specs.State.{IsSound}
 use Rattle.ckr_desk_turn.specs.declared.plan.Plan.TheVariants.{Work}
 use Rattle.ckr_desk.proofs.Turns.Preparation.{planned-before, seen-alike, turned-before, turned-not}
 use Rattle.ckr_desk.proofs.Calls.FullBooks.{of-disk-numbers}
@@ -14,7 +13,7 @@ use Rattle.ckr_desk.specs.Requests.{TellsNumbers}
 use Rattle.ckr_desk.specs.Soundness.{state_of}
 use Rattle.ckr_desk.specs.Turn.{AnswerStands, asks, event_of_turn, reply_of}
 use Rattle.ckr_console.specs.Answering.{restart_answer}
-use Rattle.ckr_desk.specs.State.{DeskView, MachineRoomView}
+use Rattle.ckr_desk.specs.State.{MachineRoomView}
 use Rattle.ckr_desk.specs.Units.{HasTurned}
 use Rattle.ckr_desk.proofs.desk.Desk.work.Goals as goal
 
@@ -33,7 +32,6 @@ returns-in_err-unit-clause-turned g c turn p =
     }
     in
     let since = reads-left d.told d.content d.may_leave d.moment d.left_since d.size now new.store.disk e.any_moment e.only_reads in
-    let sound = subst (λ (s : DeskView g.row.D.Denot). IsSound d.content d.may_leave d.size s.store) c.self.view_is c.layout-layout.ensures.sound in
     let later = planned-before d.told d.content d.may_leave d.moment d.left_since d.size now new is e.size since turn (Work c.args.run) p in
     subst (HasTurned d.told d.content d.may_leave d.moment d.left_since d.size turn (restart_answer now.machine_room.operator) now new) (sym (err-is c.from_residual.result c.in_err-unit.field-0.0 c.from_residual.ensures.1))
     (turned-not d.told d.content d.may_leave d.moment d.left_since d.size now new is e.size since turn (restart_answer now.machine_room.operator) p.trusted c.in_err-unit.field-0.0

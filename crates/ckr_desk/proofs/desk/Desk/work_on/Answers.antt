@@ -69,10 +69,14 @@ go_on-requires-clause-ready g c κs within =
 
 pub invariant_of-self : goal.invariant_of-self
 invariant_of-self g c =
-    let layout = c.self-2.inside.store.layout in
-    let kept = c.self-2.invariant in
-    kept-moved layout c.self-2.inside.jobs c.take_step.new.self (ap (λ (t : RoomyTables). t.desk) c.take_step.ensures.tables) c.take_step.ensures.failed
-    (c.take_step.ensures.jobs layout kept.are) (c.take_step.ensures.own kept.own) kept
+    let layout = c.self.inside.store.layout in
+    let kept = c.self.invariant.jobs in
+    record {
+      jobs =
+          kept-moved layout c.self.inside.jobs c.take_step.new.self (ap (λ (t : RoomyTables). t.desk) c.take_step.ensures.tables) c.take_step.ensures.failed
+          (c.take_step.ensures.jobs layout kept.are) (c.take_step.ensures.own kept.own) kept;
+      store = c.self.invariant.store;
+    }
 
 pub returns-in-Ok-clause-turned : goal.returns-in-Ok-clause-turned
 returns-in-Ok-clause-turned g c turn answer p ahead =
@@ -137,7 +141,7 @@ returns-in-Err-clause-turned g c turn answer p ahead =
       trusted = tt;
       cause = done-cause d.told d.content d.may_leave d.moment d.left_since d.size now p.trusted turn c.args.run p.planned answer mid plan done events shape stems d.faults new c.in-Err.error c.in-Err.ensures.cause;
       takes = behind-takes d.faults mid new plan (reply_of (state_of d.content now) turn answer) (event_of_turn (state_of d.content now) turn answer) (asks (state_of d.content now) turn answer) c.in-Err.error c.in-Err.ensures.cause;
-      kept = subst (λ (s : DeskView g.row.D.Denot). KeepsWithin d.content d.moment d.left_since d.size now s (came_by (failed c.in-Err.error) (spelled (event_of_turn (state_of d.content now) turn answer)))) (sym c.self-2.view_is)
+      kept = subst (λ (s : DeskView g.row.D.Denot). KeepsWithin d.content d.moment d.left_since d.size now s (came_by (failed c.in-Err.error) (spelled (event_of_turn (state_of d.content now) turn answer)))) (sym c.self.view_is)
           (came-of-disk d.content d.moment d.left_since d.size now new (spelled (event_of_turn (state_of d.content now) turn answer)) (failed c.in-Err.error)
           (go-of-disk d.faults mid new plan c.in-Err.error c.in-Err.ensures.cause)
           (done-kept d.told d.content d.may_leave d.moment d.left_since d.size now p.trusted turn c.args.run p.planned answer mid plan done events shape stems c.done_unit.ensures.size new c.done_unit.ensures.left (c.go_on.ensures.left p.trusted.tells)));

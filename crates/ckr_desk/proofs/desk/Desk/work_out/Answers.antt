@@ -19,13 +19,13 @@ ahead-requires-clause-due g c κs within =
     (same_Some its.0 (step_seen c.in-Some.on.now) (sym its.1 ∙ sym c.in-Some.ensures.step)) its.2
 
 pub ahead-requires-clause-counted : goal.ahead-requires-clause-counted
-ahead-requires-clause-counted g c κs within = (c.in-Some.ensures.runnable c.self.inside.store.layout c.self.invariant.are).counted
+ahead-requires-clause-counted g c κs within = (c.in-Some.ensures.runnable c.self.inside.store.layout c.self.invariant.jobs.are).counted
 
 pub ahead-requires-clause-stored : goal.ahead-requires-clause-stored
-ahead-requires-clause-stored g c κs within = (c.in-Some.ensures.runnable c.self.inside.store.layout c.self.invariant.are).stored
+ahead-requires-clause-stored g c κs within = (c.in-Some.ensures.runnable c.self.inside.store.layout c.self.invariant.jobs.are).stored
 
 pub ahead-requires-clause-there : goal.ahead-requires-clause-there
-ahead-requires-clause-there g c κs within = (c.in-Some.ensures.runnable c.self.inside.store.layout c.self.invariant.are).there
+ahead-requires-clause-there g c κs within = (c.in-Some.ensures.runnable c.self.inside.store.layout c.self.invariant.jobs.are).there
 
 pub returns-clause-unit : goal.returns-clause-unit
 returns-clause-unit g c =
@@ -37,7 +37,7 @@ returns-clause-unit g c =
       found = sym c.in-Some.ensures.step;
       uncoded = (let its = subst (λ (s : DeskView g.row.D.Denot). HasDue s.jobs (Work c.args.run)) (sym c.self.view_is) c.requires.due in
           subst (λ (on : RunningStepView). on.code ≡ None) (same_Some its.0 (step_seen c.in-Some.on.now) (sym its.1 ∙ sym c.in-Some.ensures.step)) its.3);
-      there = (c.in-Some.ensures.runnable c.self.inside.store.layout c.self.invariant.are).there;
+      there = (c.in-Some.ensures.runnable c.self.inside.store.layout c.self.invariant.jobs.are).there;
       out = subst (λ (l : Layout). HasWorkedOut d.told (d.content c.ahead.new.self.disk) l on.step on.sets unit) (sym (ap (λ (s : StoreView g.row.D.Denot). s.layout) c.in_ok-unit.ensures.kept))
           (subst (λ (bytes : List ℕ). HasWorkedOut d.told bytes c.self.inside.store.layout on.step on.sets unit) (sym c.ahead.ensures.only_reads.same) c.in_ok-unit.ensures.ahead);
     }

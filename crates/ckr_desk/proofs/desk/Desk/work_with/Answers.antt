@@ -2,7 +2,7 @@ use Rattle.std.proofs.Common.{◌≡◌, ◌≤◌, ◌∙◌, ⊎_elim, false, 
 use Rattle.ckr_book.specs.Book.{room_of}
 use Rattle.ckr_console.specs.Answering.{restart_answer}
 use Rattle.ckr_desk_memory.specs.Plans.{IsWent}
-use Rattle.ckr_desk_store.specs.State.{IsSound, StoreView}
+use Rattle.ckr_desk_store.specs.State.{StoreView}
 use Rattle.ckr_desk_turn.specs.declared.plan.Plan.TheVariants.{Work}
 use Rattle.ckr_desk_turn.specs.Inquiries.{decide, is_ask}
 use Rattle.ckr_desk_refines.specs.Moves.{event_in}
@@ -23,7 +23,7 @@ use Rattle.ckr_desk.specs.NoChange.{StaysBy}
 use Rattle.ckr_desk.specs.Requests.{MayFail, TellsNumbers}
 use Rattle.ckr_desk.specs.Rewrite.{OpensSame}
 use Rattle.ckr_desk.specs.Soundness.{state_of}
-use Rattle.ckr_desk.specs.State.{DeskView, MachineRoomView, RoomyDesk}
+use Rattle.ckr_desk.specs.State.{MachineRoomView, RoomyDesk}
 use Rattle.ckr_desk.specs.Turn.{AnswerStands, AnswerStandsBy, asks, room_behind_answer}
 use Rattle.ckr_desk.specs.Units.{HasTurned}
 use Rattle.ckr_desk.specs.declared.error.DeskError.TheVariants.{NoMemory}
@@ -54,9 +54,8 @@ returns-in_err-plan-clause-turned g c turn p =
     let said = c.args.told in
     let is = as-before d.content d.may_leave now mid d.told (same-unchanged d.content d.may_leave now mid e.jobs e.store) in
     let laws = g.met.D.Disk g.world.𝓛 g.world.𝓜 g.world.𝓡 ((λ s x. x), (λ x. x), (λ x. x), λ x. x) in
-    let sound = subst (λ (s : DeskView g.row.D.Denot). IsSound d.content d.may_leave d.size s.store) c.self.view_is c.layout-layout.ensures.sound in
     let since = same-left d.moment d.left_since now.store mid.store (λ image. OpensSame d.content d.size now image × d.may_leave now.store.disk image) e.store
-    (now-left d.told d.content d.may_leave d.moment d.left_since d.size now sound c.requires.is_open (laws.only_now now.store.disk)) in
+    (now-left d.told d.content d.may_leave d.moment d.left_since d.size now c.requires.sound c.requires.is_open (laws.only_now now.store.disk)) in
     let sized = ap (λ (s : StoreView g.row.D.Denot). d.size s.disk) e.store in
     let error = c.in_err-plan.field-0.0 in
     let unfit = c.in_err-plan.ensures.cause in
@@ -66,7 +65,7 @@ returns-in_err-plan-clause-turned g c turn p =
     subst (HasTurned d.told d.content d.may_leave d.moment d.left_since d.size turn answer now mid) (sym result)
     (turned-not d.told d.content d.may_leave d.moment d.left_since d.size now mid is sized since turn answer p.trusted error
     (look-cause d.told d.content d.may_leave d.moment d.left_since d.size c.args.run answer now mid turn p later is error unlooked)
-    (look-takes d.told d.content d.may_leave d.moment d.left_since d.size c.args.run answer now mid turn later is (subst (λ (l : Layout). l.book ≤ 4294967295) (sym (ap (λ (s : StoreView g.row.D.Denot). s.layout) e.store)) (book-short now.store.layout (d.size now.store.disk) sound.header)) error unlooked))
+    (look-takes d.told d.content d.may_leave d.moment d.left_since d.size c.args.run answer now mid turn later is (subst (λ (l : Layout). l.book ≤ 4294967295) (sym (ap (λ (s : StoreView g.row.D.Denot). s.layout) e.store)) (book-short now.store.layout (d.size now.store.disk) c.requires.sound.header)) error unlooked))
 
 pub returns-clause-turned : goal.returns-clause-turned
 returns-clause-turned g c turn p =
@@ -79,9 +78,8 @@ returns-clause-turned g c turn p =
     let said = c.args.told in
     let is = as-before d.content d.may_leave now mid d.told (same-unchanged d.content d.may_leave now mid e.jobs e.store) in
     let laws = g.met.D.Disk g.world.𝓛 g.world.𝓜 g.world.𝓡 ((λ s x. x), (λ x. x), (λ x. x), λ x. x) in
-    let sound = subst (λ (s : DeskView g.row.D.Denot). IsSound d.content d.may_leave d.size s.store) c.self.view_is c.layout-layout.ensures.sound in
     let since = same-left d.moment d.left_since now.store mid.store (λ image. OpensSame d.content d.size now image × d.may_leave now.store.disk image) e.store
-    (now-left d.told d.content d.may_leave d.moment d.left_since d.size now sound c.requires.is_open (laws.only_now now.store.disk)) in
+    (now-left d.told d.content d.may_leave d.moment d.left_since d.size now c.requires.sound c.requires.is_open (laws.only_now now.store.disk)) in
     let sized = ap (λ (s : StoreView g.row.D.Denot). d.size s.disk) e.store in
     let ahead = ahead-with d.told d.content c.args.run now mid unit said answer c.requires.unit c.requires.told e.store e.jobs c.in_ok-plan.plan c.in_ok-plan.ensures.decided c.in_ok-plan.ensures.spelled c.in_ok-plan.ready c.in_ok-plan.ensures.ready in
     turned-before d.told d.content d.may_leave d.moment d.left_since d.size now mid is sized since turn answer p.trusted c.work_on.new.self c.work_on.result (c.work_on.ensures.turned turn answer (planned-before d.told d.content d.may_leave d.moment d.left_since d.size now mid is sized since turn (Work c.args.run) p) ahead)
@@ -121,9 +119,8 @@ returns-clause-answered g c turn p =
     let said = c.args.told in
     let is = as-before d.content d.may_leave now mid d.told (same-unchanged d.content d.may_leave now mid e.jobs e.store) in
     let laws = g.met.D.Disk g.world.𝓛 g.world.𝓜 g.world.𝓡 ((λ s x. x), (λ x. x), (λ x. x), λ x. x) in
-    let sound = subst (λ (s : DeskView g.row.D.Denot). IsSound d.content d.may_leave d.size s.store) c.self.view_is c.layout-layout.ensures.sound in
     let since = same-left d.moment d.left_since now.store mid.store (λ image. OpensSame d.content d.size now image × d.may_leave now.store.disk image) e.store
-    (now-left d.told d.content d.may_leave d.moment d.left_since d.size now sound c.requires.is_open (laws.only_now now.store.disk)) in
+    (now-left d.told d.content d.may_leave d.moment d.left_since d.size now c.requires.sound c.requires.is_open (laws.only_now now.store.disk)) in
     let sized = ap (λ (s : StoreView g.row.D.Denot). d.size s.disk) e.store in
     let ahead = ahead-with d.told d.content c.args.run now mid unit said answer c.requires.unit c.requires.told e.store e.jobs c.in_ok-plan.plan c.in_ok-plan.ensures.decided c.in_ok-plan.ensures.spelled c.in_ok-plan.ready c.in_ok-plan.ensures.ready in
     let at = at-step d.told d.content d.may_leave d.moment d.left_since d.size now p.trusted turn c.args.run p.planned unit c.requires.unit answer in

@@ -22,13 +22,21 @@ write_entry-requires-clause-space g c κs within =
 
 pub invariant_of-self : goal.invariant_of-self
 invariant_of-self g c =
-    kept-stay c.self.inside.store.layout c.write_entry.new.self.layout c.self.inside.jobs c.self.inside.jobs
-    (failed-layout g.D.Disk.faults c.self.inside.store c.write_entry.new.self c.in_err-write_entry.field-0.0 c.in_err-write_entry.ensures.cause) refl refl refl refl c.self.invariant
+    record {
+      jobs =
+          kept-stay c.self.inside.store.layout c.write_entry.new.self.layout c.self.inside.jobs c.self.inside.jobs
+          (failed-layout g.D.Disk.faults c.self.inside.store c.write_entry.new.self c.in_err-write_entry.field-0.0 c.in_err-write_entry.ensures.cause) refl refl refl refl c.self.invariant.jobs;
+      store = c.write_entry.ensures.sound;
+    }
 
 pub invariant_of-self-2 : goal.invariant_of-self-2
 invariant_of-self-2 g c =
-    kept-stay c.self.inside.store.layout c.write_entry.new.self.layout c.self.inside.jobs c.self.inside.jobs
-    (ap (λ (s : StoreView g.row.D.Denot). s.layout) c.in_ok-write_entry.ensures.kept) refl refl refl refl c.self.invariant
+    record {
+      jobs =
+          kept-stay c.self.inside.store.layout c.write_entry.new.self.layout c.self.inside.jobs c.self.inside.jobs
+          (ap (λ (s : StoreView g.row.D.Denot). s.layout) c.in_ok-write_entry.ensures.kept) refl refl refl refl c.self.invariant.jobs;
+      store = c.write_entry.ensures.sound;
+    }
 
 pub returns-clause-written : goal.returns-clause-written
 returns-clause-written g c =

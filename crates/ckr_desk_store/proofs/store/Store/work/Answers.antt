@@ -12,6 +12,10 @@ invariant_of-self g c =
       settled = λ is. absurd (false≢true is);
     }
 
+-- so the store as it is seen then is sound
+pub returns-in-Ok-clause-sound : goal.returns-in-Ok-clause-sound
+returns-in-Ok-clause-sound g c = (invariant_of-self g c).sound
+
 pub returns-in-Ok-clause-goes_on : goal.returns-in-Ok-clause-goes_on
 returns-in-Ok-clause-goes_on g c = rw (← c.self.view_is) (λ told. c.in-Ok.ensures.goes_on told)
 

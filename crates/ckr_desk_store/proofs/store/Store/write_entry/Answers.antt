@@ -20,6 +20,10 @@ invariant_of-self g c =
       settled = λ _. c.in-Ok.ensures.settled;
     }
 
+-- so the store as it is seen then is sound
+pub returns-in-Ok-clause-sound : goal.returns-in-Ok-clause-sound
+returns-in-Ok-clause-sound g c = (invariant_of-self g c).sound
+
 pub returns-in-Ok-clause-keeps : goal.returns-in-Ok-clause-keeps
 returns-in-Ok-clause-keeps g c =
     let d = g.D.Disk in

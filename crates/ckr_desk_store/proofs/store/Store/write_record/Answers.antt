@@ -20,6 +20,10 @@ invariant_of-self g c =
       settled = λ is. absurd (false≢true is);
     }
 
+-- so the store as it is seen then is sound
+pub returns-in-Ok-clause-sound : goal.returns-in-Ok-clause-sound
+returns-in-Ok-clause-sound g c = (invariant_of-self g c).sound
+
 pub returns-in-Ok-clause-events : goal.returns-in-Ok-clause-events
 returns-in-Ok-clause-events g c =
     let d = g.D.Disk in
