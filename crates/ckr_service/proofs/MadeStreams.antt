@@ -26,9 +26,6 @@ stream_more n m text mid new more before deck commands =
 
 -- ---- its length
 
-two_lengths : (a b : List ℕ) (x y : ℕ) → length a ≤ x → length b ≤ y → length (a ++ b) ≤ x + y
-two_lengths a b x y first second = (let whole = length-append a b in omega (arith, whole, first, second))
-
 -- a job has at most seven records of 8 bytes each
 records_short : (job count : ℕ) → length (made_records job count) ≤ 8 * count
 records_short job zero = omega arith

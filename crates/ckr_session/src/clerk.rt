@@ -253,7 +253,6 @@ impl<D: Disk, O: Operator> Clerk<D, O> {
         ensures sink_later { K.faults sink.old ≤ K.faults sink.new }
         ensures failed { lines.new.failed ≡ true → Rose (K.faults sink.old) (K.faults sink.new) }
     {
-        let _layout = self.desk.layout();
         match read_order(self.desk.layout().initiators, text) {
             Order::Turns { turn, count } => turned(
                 &mut self.desk,

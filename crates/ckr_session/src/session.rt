@@ -31,7 +31,7 @@ pub struct Session<D: Disk, O: Operator> {
     pub clerk: Clerk<D, O>,
     /// How far the stream is cut.
     pub cutter: Cutter,
-    /// The cards of the deck that is open, as they are stored.
+    /// The cards of the deck that is open.
     pub deck: OpenDeck,
     /// The number of lines so far.
     pub number: u32,

@@ -1,5 +1,5 @@
 -- Requests that aren't served to their end.
-use Rattle.std.proofs.Common.{◌≡◌, ◌≤◌, ℕ, Bool, true, false, ◌&&◌, List, [], ◌∷◌, ◌++◌, Option, length, Result, Ok, Err, IfErr, IsErrAnd, inl, inr, refl, sym, ap, subst, ◌∙◌, append_assoc, append-nil, arith}
+use Rattle.std.proofs.Common.{◌≡◌, ◌≤◌, ℕ, Bool, true, false, ◌&&◌, List, [], ◌∷◌, ◌++◌, Option, length, inl, inr, refl, sym, ap, subst, ◌∙◌, append_assoc, append-nil, arith}
 use Rattle.std.specs.Io.KnownBytes.{Appends}
 use Rattle.ckr_base.proofs.KnownBytes.{Appends-trans}
 use Rattle.ckr_outside.specs.Faults.{Rose}
@@ -13,7 +13,7 @@ use Rattle.ckr_session.specs.declared.stop.Stop.TheVariants as Stops
 use Rattle.ckr_session.specs.Calls.{after_all, all_fit, replies_of, broken_off}
 use Rattle.ckr_session.specs.Events.{events_told, events_before, event_at}
 use Rattle.ckr_session.specs.Texts.{answer_text}
-use Rattle.ckr_session.specs.Service.{View, Serves, BreaksOff, HaltsSo, HaltCause, WritesSo, StopsWithin, Caused, RestWritten, stop_of, text_to}
+use Rattle.ckr_session.specs.Service.{View, Serves, BreaksOff, HaltsSo, WritesSo, StopsWithin, Caused, RestWritten, stop_of, text_to}
 use Rattle.ckr_session.proofs.Service.Order.{all_fit-append, after_all-append, text_to-append, text_to-full}
 use Rattle.ckr_session.proofs.Service.Events.{events_told-append, events_told-full, comes_behind, comes_before}
 
@@ -222,24 +222,3 @@ rest_written Halts.Book stop before now s xs out old new came kept so is rest =
     subst (λ (w : Stop). StopsWithin w before now s xs old new came kept) (sym is) (so.0, subst (WritesSo before now old new) so.1 rest, so.2, so.3)
 rest_written Halts.Disk stop before now s xs out old new came kept so is rest =
     subst (λ (w : Stop). StopsWithin w before now s xs old new came kept) (sym is) (so.0, so.2, subst (WritesSo before now old new) so.1 rest)
-
-pub rest_caused : (trusted : Type 0) (halt : Halt) (stop : Stop) (before now : ℕ) (disk disk' : ℕ) → HaltCause trusted halt disk disk' → stop ≡ stop_of halt → Caused trusted stop before now disk disk'
-rest_caused trusted Halts.Memory stop before now disk disk' cause is = subst (λ (w : Stop). Caused trusted w before now disk disk') (sym is) tt
-rest_caused trusted Halts.Book stop before now disk disk' cause is = subst (λ (w : Stop). Caused trusted w before now disk disk') (sym is) tt
-rest_caused trusted Halts.Disk stop before now disk disk' cause is = subst (λ (w : Stop). Caused trusted w before now disk disk') (sym is) cause
-
--- ---- of a call's result
-
-pub cause_handed_on : {T : Type 0} (trusted : Type 0) (r : Result T Halt) (halt : Halt) (before now now' : ℕ) → IsErrAnd r (λ h. h ≡ halt) → HaltCause trusted halt before now → now ≡ now' → IfErr r (λ h. HaltCause trusted h before now')
-cause_handed_on trusted (Ok x) halt before now now' is cause same = tt
-cause_handed_on trusted (Err h) halt before now now' is cause same = subst (λ (w : Halt). HaltCause trusted w before now') (sym is) (subst (λ (n : ℕ). HaltCause trusted halt before n) same cause)
-
-pub halt_earlier : (trusted trusted' : Type 0) (halt : Halt) (before between now : ℕ) → before ≤ between → (trusted' → trusted) → HaltCause trusted halt between now → HaltCause trusted' halt before now
-halt_earlier trusted trusted' Halts.Memory before between now later holds cause = tt
-halt_earlier trusted trusted' Halts.Book before between now later holds cause = tt
-halt_earlier trusted trusted' Halts.Disk before between now later holds cause = rose_earlier before between now later cause
-
-pub cause_on : {T : Type 0} (trusted trusted' : Type 0) (r : Result T Halt) (before between now : ℕ) → before ≤ between → (trusted' → trusted)
-    → IfErr r (λ halt. HaltCause trusted halt between now) → IfErr r (λ halt. HaltCause trusted' halt before now)
-cause_on trusted trusted' (Ok x) before between now later holds cause = tt
-cause_on trusted trusted' (Err halt) before between now later holds cause = halt_earlier trusted trusted' halt before between now later holds cause

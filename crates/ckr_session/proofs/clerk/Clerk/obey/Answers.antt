@@ -207,7 +207,7 @@ returns-in-Sets-clause-halt g c holds =
     let from = telling c.args.lines.now (g.K.Sink.written c.args.sink.now) (g.K.Sink.faults c.args.sink.now) in
     halts_quiet_on d.content d.moment d.left_since d.size c.list_sets.result c.args.self.now (disk_of c.list_sets.new.self.desk) (Command c.args.number c.args.text.now ∷ []) from (quiet from c.list_sets.new.out) c.requires.fresh refl
     (memory_here d.content d.moment d.left_since d.size c.list_sets.result old old _ [] (λ halt. HaltsSo halt (staffed_of d.content c.args.self.now) (Command c.args.number c.args.text.now ∷ []) c.args.lines.now.text c.list_sets.new.out)
-    (ap (λ (o : _). o.desk) c.list_sets.ensures.clerk) (goes_nowhere d.content d.moment d.left_since d.size old (c.layout-layout.ensures.kept c.requires.is_open holds)) (sym (append-nil _)) (comes_none _) c.list_sets.ensures.halt)
+    (ap (λ (o : _). o.desk) c.list_sets.ensures.clerk) (goes_nowhere d.content d.moment d.left_since d.size old (c.layout.ensures.kept c.requires.is_open holds)) (sym (append-nil _)) (comes_none _) c.list_sets.ensures.halt)
 
 pub returns-in-Jobs-clause-halt : goal.returns-in-Jobs-clause-halt
 returns-in-Jobs-clause-halt g c holds =
@@ -216,7 +216,7 @@ returns-in-Jobs-clause-halt g c holds =
     let from = telling c.args.lines.now (g.K.Sink.written c.args.sink.now) (g.K.Sink.faults c.args.sink.now) in
     halts_quiet_on d.content d.moment d.left_since d.size c.list_jobs.result c.args.self.now (disk_of c.list_jobs.new.self.desk) (Command c.args.number c.args.text.now ∷ []) from (quiet from c.list_jobs.new.out) c.requires.fresh refl
     (memory_here d.content d.moment d.left_since d.size c.list_jobs.result old old _ [] (λ halt. HaltsSo halt (staffed_of d.content c.args.self.now) (Command c.args.number c.args.text.now ∷ []) c.args.lines.now.text c.list_jobs.new.out)
-    (ap (λ (o : _). o.desk) c.list_jobs.ensures.clerk) (goes_nowhere d.content d.moment d.left_since d.size old (c.layout-layout.ensures.kept c.requires.is_open holds)) (sym (append-nil _)) (comes_none _) c.list_jobs.ensures.halt)
+    (ap (λ (o : _). o.desk) c.list_jobs.ensures.clerk) (goes_nowhere d.content d.moment d.left_since d.size old (c.layout.ensures.kept c.requires.is_open holds)) (sym (append-nil _)) (comes_none _) c.list_jobs.ensures.halt)
 
 pub returns-in-Unknown-clause-halt : goal.returns-in-Unknown-clause-halt
 returns-in-Unknown-clause-halt g c holds =
@@ -225,7 +225,7 @@ returns-in-Unknown-clause-halt g c holds =
     let from = telling c.args.lines.now (g.K.Sink.written c.args.sink.now) (g.K.Sink.faults c.args.sink.now) in
     halts_quiet_on d.content d.moment d.left_since d.size c.refuse_line.result c.args.self.now (disk_of c.refuse_line.new.self.desk) (Command c.args.number c.args.text.now ∷ []) from (quiet from c.refuse_line.new.out) c.requires.fresh refl
     (memory_here d.content d.moment d.left_since d.size c.refuse_line.result old old _ [] (λ halt. HaltsSo halt (staffed_of d.content c.args.self.now) (Command c.args.number c.args.text.now ∷ []) c.args.lines.now.text c.refuse_line.new.out)
-    c.refuse_line.ensures.desk (goes_nowhere d.content d.moment d.left_since d.size old (c.layout-layout.ensures.kept c.requires.is_open holds)) (sym (append-nil _)) (comes_none _) c.refuse_line.ensures.halt)
+    c.refuse_line.ensures.desk (goes_nowhere d.content d.moment d.left_since d.size old (c.layout.ensures.kept c.requires.is_open holds)) (sym (append-nil _)) (comes_none _) c.refuse_line.ensures.halt)
 
 pub returns-in-Shift-clause-halt : goal.returns-in-Shift-clause-halt
 returns-in-Shift-clause-halt g c holds =
@@ -235,7 +235,7 @@ returns-in-Shift-clause-halt g c holds =
     let from = telling c.args.lines.now (g.K.Sink.written c.args.sink.now) (g.K.Sink.faults c.args.sink.now) in
     halts_quiet_on d.content d.moment d.left_since d.size c.shift.result c.args.self.now (disk_of c.shift.new.self.desk) (Command c.args.number c.args.text.now ∷ []) from (quiet from c.shift.new.out) c.requires.fresh refl
     (memory_here d.content d.moment d.left_since d.size c.shift.result old behind _ [] (λ halt. HaltsSo halt (staffed_of d.content c.args.self.now) (Command c.args.number c.args.text.now ∷ []) c.args.lines.now.text c.shift.new.out)
-    c.shift.ensures.desk (goes-with_room old behind.machine_room d.content d.moment d.left_since d.size (c.layout-layout.ensures.kept c.requires.is_open holds)) (sym (append-nil _)) (comes_none _) c.shift.ensures.halt)
+    c.shift.ensures.desk (goes-with_room old behind.machine_room d.content d.moment d.left_since d.size (c.layout.ensures.kept c.requires.is_open holds)) (sym (append-nil _)) (comes_none _) c.shift.ensures.halt)
 
 -- ---- what a stop leaves
 
@@ -245,7 +245,7 @@ returns-in-Shift-clause-goes g c holds =
     let old = c.args.self.now.desk in
     let room = machine_room_of c.shift.new.self.desk in
     goes_on_to d.content d.moment d.left_since d.size c.shift.result old (record old { machine_room = room }) _ c.shift.ensures.desk
-    (goes-with_room old room d.content d.moment d.left_since d.size (c.layout-layout.ensures.kept c.requires.is_open holds))
+    (goes-with_room old room d.content d.moment d.left_since d.size (c.layout.ensures.kept c.requires.is_open holds))
 
 pub returns-in-Shift-clause-trusted : goal.returns-in-Shift-clause-trusted
 returns-in-Shift-clause-trusted g c =
@@ -258,16 +258,16 @@ pub returns-in-Unknown-clause-goes : goal.returns-in-Unknown-clause-goes
 returns-in-Unknown-clause-goes g c holds =
     let d = g.D.Disk in
     let old = c.args.self.now.desk in
-    goes_on_to d.content d.moment d.left_since d.size c.refuse_line.result old old _ c.refuse_line.ensures.desk (goes_nowhere d.content d.moment d.left_since d.size old (c.layout-layout.ensures.kept c.requires.is_open holds))
+    goes_on_to d.content d.moment d.left_since d.size c.refuse_line.result old old _ c.refuse_line.ensures.desk (goes_nowhere d.content d.moment d.left_since d.size old (c.layout.ensures.kept c.requires.is_open holds))
 
 pub returns-in-Sets-clause-goes : goal.returns-in-Sets-clause-goes
 returns-in-Sets-clause-goes g c holds =
     let d = g.D.Disk in
     let old = c.args.self.now.desk in
-    goes_on_to d.content d.moment d.left_since d.size c.list_sets.result old old _ (ap (λ (o : _). o.desk) c.list_sets.ensures.clerk) (goes_nowhere d.content d.moment d.left_since d.size old (c.layout-layout.ensures.kept c.requires.is_open holds))
+    goes_on_to d.content d.moment d.left_since d.size c.list_sets.result old old _ (ap (λ (o : _). o.desk) c.list_sets.ensures.clerk) (goes_nowhere d.content d.moment d.left_since d.size old (c.layout.ensures.kept c.requires.is_open holds))
 
 pub returns-in-Jobs-clause-goes : goal.returns-in-Jobs-clause-goes
 returns-in-Jobs-clause-goes g c holds =
     let d = g.D.Disk in
     let old = c.args.self.now.desk in
-    goes_on_to d.content d.moment d.left_since d.size c.list_jobs.result old old _ (ap (λ (o : _). o.desk) c.list_jobs.ensures.clerk) (goes_nowhere d.content d.moment d.left_since d.size old (c.layout-layout.ensures.kept c.requires.is_open holds))
+    goes_on_to d.content d.moment d.left_since d.size c.list_jobs.result old old _ (ap (λ (o : _). o.desk) c.list_jobs.ensures.clerk) (goes_nowhere d.content d.moment d.left_since d.size old (c.layout.ensures.kept c.requires.is_open holds))
