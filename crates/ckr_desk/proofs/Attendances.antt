@@ -5,8 +5,8 @@ use Rattle.std.specs.Option.{is_none, is_some, option_map_or}
 use Rattle.ckr_base.proofs.Bools.{bool-cases}
 use Rattle.ckr_console.specs.Answering.{Answering, restart_answer}
 use Rattle.ckr_console.specs.declared.question.Answer.{Answer}
-use Rattle.ckr_desk_memory.specs.Plans.{NeedsRoom}
-use Rattle.ckr_desk_memory.specs.View.{PointView, jobs_of}
+use Rattle.ckr_desk_refines.specs.Memory.Plans.{NeedsRoom}
+use Rattle.ckr_desk_refines.specs.Memory.View.{PointView, jobs_of}
 use Rattle.ckr_desk_refines.proofs.Standing.Plans.{plans-so}
 use Rattle.ckr_desk_turn.proofs.Mounts.{taken-stays}
 use Rattle.ckr_desk_turn.specs.Mounts.{Attempt, Wanting, asked_for, at_hand, attempt_for, gives_up, plan_by, unless_held, volumes_of, wanting, wants}

@@ -2,12 +2,12 @@
 use Rattle.std.proofs.Common.{◌≡◌, ℕ, [], ap, subst, sym}
 use Rattle.std.specs.List.{AllByRecursion}
 use Rattle.ckr_base.proofs.Options.{some-not-none}
-use Rattle.ckr_desk_memory.specs.Invariant.{AreJobs, IsAcceptedRow, IsPlacedRow, IsRunnable}
-use Rattle.ckr_desk_memory.specs.Holders.{AreHolders}
-use Rattle.ckr_desk_memory.specs.OwnSets.{IsRunningOf}
-use Rattle.ckr_desk_memory.specs.OwnSteps.{AreLeft, AreSingle, HavePoints, HoldTheirOwn}
-use Rattle.ckr_desk_memory.specs.View.{JobsView}
-use Rattle.ckr_desk_memory.proofs.Holders.LeftRuns.{left-alike}
+use Rattle.ckr_desk_refines.specs.Memory.Invariant.{AreJobs, IsAcceptedRow, IsPlacedRow, IsRunnable}
+use Rattle.ckr_desk_refines.specs.Memory.Holders.{AreHolders}
+use Rattle.ckr_desk_refines.specs.Memory.OwnSets.{IsRunningOf}
+use Rattle.ckr_desk_refines.specs.Memory.OwnSteps.{AreLeft, AreSingle, HavePoints, HoldTheirOwn}
+use Rattle.ckr_desk_refines.specs.Memory.View.{JobsView}
+use Rattle.ckr_desk_refines.proofs.Memory.LeftRuns.{left-alike}
 use Rattle.ckr_desk_turn.specs.Queue.{AreNumbered}
 use Rattle.ckr_points.specs.Rows.{TablesModel, no_tables}
 use Rattle.ckr_points.specs.Soundness.{AreLaidOut}

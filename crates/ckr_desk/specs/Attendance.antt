@@ -4,8 +4,8 @@ use Rattle.std.specs.Option.{is_none, is_some}
 use Rattle.ckr_console.specs.Answering.{restart_answer}
 use Rattle.ckr_console.specs.declared.question.Answer.{Answer}
 use Rattle.ckr_events.specs.declared.event.Event.{Event}
-use Rattle.ckr_desk_memory.specs.MountMemory.{none_prepared}
-use Rattle.ckr_desk_memory.specs.View.{JobsView}
+use Rattle.ckr_desk_refines.specs.Memory.MountMemory.{none_prepared}
+use Rattle.ckr_desk_refines.specs.Memory.View.{JobsView}
 use Rattle.ckr_queue.specs.Mounts.{given_up, held_at}
 use Rattle.ckr_queue.specs.Units.{is_volume_list}
 use Rattle.ckr_volumes.specs.declared.layout.Layout.{Layout}

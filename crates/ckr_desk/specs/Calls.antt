@@ -3,7 +3,7 @@ use Rattle.std.specs.Prelude.{◌≡◌, ◌≤◌, ◌<◌, ◌+◌, ◌++◌, 
 use Rattle.ckr_book.specs.Book.{IsBeforeOrAfter, room_of}
 use Rattle.ckr_events.specs.declared.event.Event.{Event}
 use Rattle.ckr_events.specs.Event.{spelling}
-use Rattle.ckr_desk_memory.specs.Model.RewriteCounts.{may_count}
+use Rattle.ckr_desk_refines.specs.Memory.RewriteCounts.{may_count}
 use Rattle.ckr_jcl.specs.declared.deck.Job.{Job}
 use Rattle.ckr_outside.specs.Disk.{Only}
 use Rattle.ckr_points.specs.Follows.{follows}

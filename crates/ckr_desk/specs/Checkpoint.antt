@@ -2,13 +2,13 @@
 use Rattle.std.specs.Prelude.{◌≡◌, ◌<◌, ℕ, false, true, List, find, length, None, Some}
 use Rattle.std.specs.Option.{is_some}
 use Rattle.ckr_book.specs.Book.{room_of}
-use Rattle.ckr_desk_memory.specs.declared.checkpoint.Checkpoint.{Checkpoint}
-use Rattle.ckr_desk_memory.specs.Checkpoints.{HasEntrySpace, IsCheckpointOf}
-use Rattle.ckr_desk_memory.specs.Entries.{next_entry, next_id}
+use Rattle.ckr_desk_refines.specs.Memory.Checkpoint.{Checkpoint}
+use Rattle.ckr_desk_refines.specs.Memory.Checkpoints.{HasEntrySpace, IsCheckpointOf}
+use Rattle.ckr_desk_refines.specs.Memory.Entries.{next_entry, next_id}
 use Rattle.ckr_desk_turn.specs.Checkpoints.{id_in}
-use Rattle.ckr_desk_memory.specs.EventChanges.{is_of_run}
-use Rattle.ckr_desk_memory.specs.OwnSets.{CommitsItsOwn}
-use Rattle.ckr_desk_memory.specs.View.{RunningStepView}
+use Rattle.ckr_desk_refines.specs.Memory.EventChanges.{is_of_run}
+use Rattle.ckr_desk_refines.specs.Memory.OwnSets.{CommitsItsOwn}
+use Rattle.ckr_desk_refines.specs.Memory.View.{RunningStepView}
 use Rattle.ckr_library.specs.Catalog.{records_of}
 use Rattle.ckr_meaning.specs.EffectiveJob.{OwnedStep}
 use Rattle.ckr_outside.specs.Disk.{Only}

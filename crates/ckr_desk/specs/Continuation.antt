@@ -3,8 +3,8 @@
 use Rattle.std.specs.Prelude.{◌≡◌, ◌==◌, ℕ, Bool, true, false, ◌&&◌, if◌then◌else◌, List, option_and_then, Option, None, Result, Ok, Err}
 use Rattle.std.specs.Cmp.Lexicographic.{pointwise}
 use Rattle.std.specs.Option.{option_eq, option_map, option_map_or}
-use Rattle.ckr_desk_memory.specs.OwnSteps.{KnowsItsPoint}
-use Rattle.ckr_desk_memory.specs.View.{PointView}
+use Rattle.ckr_desk_refines.specs.Memory.OwnSteps.{KnowsItsPoint}
+use Rattle.ckr_desk_refines.specs.Memory.View.{PointView}
 use Rattle.ckr_desk_turn.specs.Desk.{DeskModel}
 use Rattle.ckr_desk_turn.specs.declared.plan.Plan.{Plan}
 use Rattle.ckr_desk_turn.specs.declared.plan.Plan.TheVariants.{Tell}

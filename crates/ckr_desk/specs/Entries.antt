@@ -13,8 +13,8 @@ use Rattle.ckr_meaning.specs.EffectiveJob.{OwnedStep, name_of}
 use Rattle.ckr_points.specs.Marks.{present_at}
 use Rattle.ckr_points.specs.Office.{is_holder}
 use Rattle.ckr_points.specs.Rows.{EffectPoint, RunRow, TableSet, TablesModel, run_of}
-use Rattle.ckr_desk_memory.specs.EventChanges.{is_point_of}
-use Rattle.ckr_desk_memory.specs.View.{PointView}
+use Rattle.ckr_desk_refines.specs.Memory.EventChanges.{is_point_of}
+use Rattle.ckr_desk_refines.specs.Memory.View.{PointView}
 use Rattle.ckr_desk_refines.specs.EntryRefusal.{effect_fault, first_fault, is_of_run}
 use Rattle.ckr_steps.specs.EntryRecords.{bytes_on}
 use Rattle.ckr_volumes.specs.declared.layout.Layout.{Layout}

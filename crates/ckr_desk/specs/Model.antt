@@ -1,6 +1,6 @@
 -- The definitions below this crate that its clauses cite, handed on to the crates above: the model of the events, and what a desk answers.
-pub use Rattle.ckr_desk_memory.specs.Lines
-pub use Rattle.ckr_desk_memory.specs.Plans
+pub use Rattle.ckr_desk_refines.specs.Memory.Lines
+pub use Rattle.ckr_desk_refines.specs.Memory.Plans
 pub use Rattle.ckr_desk_refines.specs.Listing
 pub use Rattle.ckr_desk_refines.specs.declared.data_sets.Listed
 pub use Rattle.ckr_desk_store.specs.OpenImages
@@ -15,7 +15,7 @@ pub use Rattle.ckr_points.specs.declared.denial.Denial
 pub use Rattle.ckr_points.specs.declared.denial.Seen
 pub use Rattle.ckr_points.specs.declared.run.Run
 pub use Rattle.ckr_points.specs.declared.run.RunState
-pub use Rattle.ckr_desk_memory.specs.Model.Cause
+pub use Rattle.ckr_desk_refines.specs.Memory.Cause
 pub use Rattle.ckr_desk_turn.specs.Submissions
 pub use Rattle.ckr_points_tables.specs.View
 pub use Rattle.ckr_rules.specs.declared.cases.Rule

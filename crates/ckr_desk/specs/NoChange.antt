@@ -1,7 +1,7 @@
 -- What stays where a call of the desk wasn't done.
 use Rattle.std.specs.Prelude.{◌≡◌, ℕ, false, List, find, Some}
-use Rattle.ckr_desk_memory.specs.EventChanges.{is_point_of}
-use Rattle.ckr_desk_memory.specs.View.{JobsView}
+use Rattle.ckr_desk_refines.specs.Memory.EventChanges.{is_point_of}
+use Rattle.ckr_desk_refines.specs.Memory.View.{JobsView}
 use Rattle.ckr_outside.specs.Disk.{NoneNew}
 use Rattle.ckr_points.specs.Follows.{is_in_state, of_run}
 use Rattle.ckr_points.specs.declared.run.RunState.TheVariants.{Queued}

@@ -3,8 +3,8 @@ use Rattle.std.specs.Prelude.{ℕ, ◌+◌, ◌-◌, if◌then◌else◌, List, 
 use Rattle.ckr_book.specs.Records.{records_from, end_from, starts_open}
 use Rattle.ckr_events.specs.declared.event.Event.{Event}
 use Rattle.ckr_events.specs.Event.{event_of}
-use Rattle.ckr_desk_memory.specs.EventChanges.{failed_in}
-use Rattle.ckr_desk_memory.specs.Replay.{replayed}
+use Rattle.ckr_desk_refines.specs.Memory.EventChanges.{failed_in}
+use Rattle.ckr_desk_refines.specs.Memory.Replay.{replayed}
 use Rattle.ckr_outside.specs.Disk.{part}
 use Rattle.ckr_points.specs.Rows.{TablesModel, no_tables}
 use Rattle.ckr_volumes.specs.declared.layout.Layout.{Layout}

@@ -4,13 +4,13 @@ use Rattle.ckr_book.specs.Book.{room_of}
 use Rattle.ckr_console.specs.declared.question.Answer.{Answer}
 use Rattle.ckr_events.specs.declared.event.Event.{Event}
 use Rattle.ckr_events.specs.Event.{IsCounted, spelling}
-use Rattle.ckr_desk_memory.specs.Model.RewriteCounts.{may_count}
+use Rattle.ckr_desk_refines.specs.Memory.RewriteCounts.{may_count}
 use Rattle.ckr_jcl.specs.declared.deck.Job.{Job}
-use Rattle.ckr_desk_memory.specs.EventChanges.{is_of_run}
-use Rattle.ckr_desk_memory.specs.OwnSteps.{PlanCommits, PlanFollows, PlanIsOf}
-use Rattle.ckr_desk_memory.specs.Plans.{IsSpelledPlan, IsUnitPlan, behind_unit, told_by}
-use Rattle.ckr_desk_memory.specs.Preparation.{IsPrepared, IsPreparedFor, needs_room}
-use Rattle.ckr_desk_memory.specs.View.{JobsView, RunningStepView, running_of}
+use Rattle.ckr_desk_refines.specs.Memory.EventChanges.{is_of_run}
+use Rattle.ckr_desk_refines.specs.Memory.OwnSteps.{PlanCommits, PlanFollows, PlanIsOf}
+use Rattle.ckr_desk_refines.specs.Memory.Plans.{IsSpelledPlan, IsUnitPlan, behind_unit, told_by}
+use Rattle.ckr_desk_refines.specs.Memory.Preparation.{IsPrepared, IsPreparedFor, needs_room}
+use Rattle.ckr_desk_refines.specs.Memory.View.{JobsView, RunningStepView, running_of}
 use Rattle.ckr_meaning.specs.EffectiveJob.{OwnedStep}
 use Rattle.ckr_points.specs.Rows.{RunRow, run_of}
 use Rattle.ckr_desk_refines.specs.Moves.{event_in}
@@ -23,10 +23,10 @@ use Rattle.ckr_desk_turn.specs.declared.plan.Plan.{Plan}
 use Rattle.ckr_desk_turn.specs.declared.plan.Plan.TheVariants.{Ask, Pass, Take, Tell, Work}
 use Rattle.ckr_events.specs.declared.event.Event.TheVariants.{Ended}
 use Rattle.ckr_events.specs.declared.event.Ending.TheVariants.{Allocation}
-use Rattle.ckr_desk_memory.specs.MountMemory.{none_prepared}
+use Rattle.ckr_desk_refines.specs.Memory.MountMemory.{none_prepared}
 use Rattle.ckr_desk.specs.declared.error.DeskError.{DeskError}
 use Rattle.ckr_desk.specs.declared.error.DeskError.TheVariants.{NoMemory, DiskFault, BookFull}
-use Rattle.ckr_desk_memory.specs.declared.preparation.Prepared.{Prepared}
+use Rattle.ckr_desk_refines.specs.Memory.Prepared.{Prepared}
 use Rattle.ckr_desk.specs.declared.preparation.Ready.{Ready}
 use Rattle.ckr_desk.specs.declared.unit.Ahead.{Ahead}
 use Rattle.ckr_desk.specs.Calls.{IsSame}

@@ -6,7 +6,7 @@ use Rattle.ckr_journal.specs.Events.{IsBadAt}
 use Rattle.ckr_outside.specs.Disk.{part}
 use Rattle.ckr_events.specs.declared.event.Event.{Event}
 use Rattle.ckr_events.specs.declared.event.Event.TheVariants.{Rewritten}
-use Rattle.ckr_desk_memory.specs.Rewrite.{updated_by}
+use Rattle.ckr_desk_refines.specs.Memory.Rewrite.{updated_by}
 use Rattle.ckr_library.specs.declared.sets.DataSet.{DataSet}
 use Rattle.ckr_library.specs.NameMaps.{Name, entry_at}
 use Rattle.ckr_outside.specs.Faults.{Rose}

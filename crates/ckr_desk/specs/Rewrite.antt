@@ -2,7 +2,7 @@
 use Rattle.std.specs.Prelude.{◌≡◌, ◌⊎◌, ℕ, List, Some}
 use Rattle.ckr_events.specs.declared.event.Event.{Event}
 use Rattle.ckr_events.specs.declared.event.Event.TheVariants.{Rewritten}
-use Rattle.ckr_desk_memory.specs.Rewrite.{updated_by}
+use Rattle.ckr_desk_refines.specs.Memory.Rewrite.{updated_by}
 use Rattle.ckr_library.specs.NameMaps.{Name, entry_at}
 use Rattle.ckr_outside.specs.Faults.{Rose}
 use Rattle.ckr_points.specs.Rows.{RunRow, TableSet, TablesModel, run_of}

@@ -4,7 +4,7 @@ use Rattle.std.specs.List.{flat_map}
 use Rattle.ckr_book.specs.Book.{room_of}
 use Rattle.ckr_events.specs.declared.event.Event.{Event}
 use Rattle.ckr_events.specs.Event.{event_of}
-use Rattle.ckr_desk_memory.specs.Replay.{deck_of}
+use Rattle.ckr_desk_refines.specs.Memory.Replay.{deck_of}
 use Rattle.ckr_desk_refines.specs.Entries.{HasEntries}
 use Rattle.ckr_outside.specs.Disk.{EachSince}
 use Rattle.ckr_points.specs.Events.{AreSound}

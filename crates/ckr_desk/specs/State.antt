@@ -4,9 +4,9 @@ use Rattle.ckr_book.specs.Book.{room_of}
 use Rattle.ckr_console.specs.Answering.{Answering}
 use Rattle.ckr_events.specs.declared.event.Event.{Event}
 use Rattle.ckr_events.specs.Event.{spelling}
-use Rattle.ckr_desk_memory.specs.Invariant.{AreJobs}
-use Rattle.ckr_desk_memory.specs.OwnSteps.{AreLeft, HoldTheirOwn}
-use Rattle.ckr_desk_memory.specs.View.{JobsView}
+use Rattle.ckr_desk_refines.specs.Memory.Invariant.{AreJobs}
+use Rattle.ckr_desk_refines.specs.Memory.OwnSteps.{AreLeft, HoldTheirOwn}
+use Rattle.ckr_desk_refines.specs.Memory.View.{JobsView}
 use Rattle.ckr_points.specs.Rows.{TablesModel}
 use Rattle.ckr_desk_store.specs.State.{IsSound, StoreView}
 use Rattle.ckr_queue.specs.Mounts.{MountTable, no_mounts}

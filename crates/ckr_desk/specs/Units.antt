@@ -4,10 +4,10 @@ use Rattle.std.specs.Option.{option_map_or}
 use Rattle.ckr_console.specs.declared.question.Answer.{Answer}
 use Rattle.ckr_events.specs.declared.event.Event.{Event}
 use Rattle.ckr_events.specs.Event.{spelling}
-use Rattle.ckr_desk_memory.specs.EventChanges.{is_of_run, without_first}
-use Rattle.ckr_desk_memory.specs.Plans.{told_by}
-use Rattle.ckr_desk_memory.specs.Preparation.{needs_room}
-use Rattle.ckr_desk_memory.specs.View.{RunningStepView, jobs_of, running_of}
+use Rattle.ckr_desk_refines.specs.Memory.EventChanges.{is_of_run, without_first}
+use Rattle.ckr_desk_refines.specs.Memory.Plans.{told_by}
+use Rattle.ckr_desk_refines.specs.Memory.Preparation.{needs_room}
+use Rattle.ckr_desk_refines.specs.Memory.View.{RunningStepView, jobs_of, running_of}
 use Rattle.ckr_meaning.specs.EffectiveJob.{OwnedStep}
 use Rattle.ckr_meaning.specs.StepRun.{StepStart}
 use Rattle.ckr_points.specs.Restart.{after_event, place_of, step_in}

@@ -1,8 +1,8 @@
 //! A turn whose step comes by the volumes that it wants.
 ghost use Rattle.std.specs.Prelude.{◌≡◌, ◌≤◌, IfErr, IfOk, OnOk, None};
 ghost use Rattle.ckr_book.specs.Book.{room_of};
-ghost use Rattle.ckr_desk_memory.specs.OwnSteps.{PlanCommits, PlanFollows, PlanLeaves};
-ghost use Rattle.ckr_desk_memory.specs.Plans.{HasDue, IsSpelledPlan, IsToldReply};
+ghost use Rattle.ckr_desk_refines.specs.Memory.OwnSteps.{PlanCommits, PlanFollows, PlanLeaves};
+ghost use Rattle.ckr_desk_refines.specs.Memory.Plans.{HasDue, IsSpelledPlan, IsToldReply};
 ghost use Rattle.ckr_desk_turn.specs.declared.plan.Plan.TheVariants as Plans;
 ghost use Rattle.ckr_desk_turn.specs.declared.reply.Turn.{Turn as TurnOf};
 ghost use Rattle.ckr_desk_store.specs.State.{IsSound};
@@ -16,7 +16,7 @@ ghost use Rattle.ckr_desk.specs.Units.{IsPlanned};
 
 use crate::{Desk, DeskError};
 use ckr_console::Operator;
-use ckr_desk_memory::{Prepared, run_wanting};
+use ckr_desk_refines::{Prepared, run_wanting};
 use ckr_desk_turn::{Plan, Reply, Taking};
 use ckr_outside::Disk;
 use ckr_queue::VolumeList;

@@ -2,7 +2,7 @@
 ghost use Rattle.std.specs.Prelude.{◌≡◌, ◌≤◌, IfErr, IfOk, OnOk, None};
 ghost use Rattle.ckr_book.specs.Book.{room_of};
 ghost use Rattle.ckr_console.specs.declared.question.Answer.{Answer as AnswerOf};
-ghost use Rattle.ckr_desk_memory.specs.Plans.{HasDue, IsToldReply};
+ghost use Rattle.ckr_desk_refines.specs.Memory.Plans.{HasDue, IsToldReply};
 ghost use Rattle.ckr_outside.specs.Disk.{EachSince};
 ghost use Rattle.ckr_desk_turn.specs.declared.plan.Plan.TheVariants as Plans;
 ghost use Rattle.ckr_desk_turn.specs.Turns.{MountedTurn};
@@ -17,7 +17,7 @@ ghost use Rattle.ckr_desk.specs.Units.{HasTurned, IsPlanned};
 use crate::preparation::Ready;
 use crate::{Desk, DeskError};
 use ckr_console::Operator;
-use ckr_desk_memory::Checkpoint;
+use ckr_desk_refines::Checkpoint;
 use ckr_desk_turn::{Chkpt, Reply};
 use ckr_outside::Disk;
 

@@ -2,9 +2,9 @@
 ghost use Rattle.std.specs.Prelude.{◌≡◌, ◌≤◌, ◌++◌, ◌∷◌, [], ℕ, Err, IfErr, IfOk, IsTrue, List, None, Some, OnOk, false, option_and_then};
 ghost use Rattle.std.specs.List.{AllByRecursion, list_all};
 ghost use Rattle.std.specs.Option.{is_some, option_copied};
-ghost use Rattle.ckr_desk_memory.specs.Invariant.{AreJobs};
-ghost use Rattle.ckr_desk_memory.specs.Parts.{IsPointCounted};
-ghost use Rattle.ckr_desk_memory.specs.Plans.{row_for};
+ghost use Rattle.ckr_desk_refines.specs.Memory.Invariant.{AreJobs};
+ghost use Rattle.ckr_desk_refines.specs.Memory.Parts.{IsPointCounted};
+ghost use Rattle.ckr_desk_refines.specs.Memory.Plans.{row_for};
 ghost use Rattle.ckr_desk_refines.specs.EntryRefusal.{entry_refusal, is_of_run, is_of_step};
 ghost use Rattle.ckr_desk_turn.specs.Queue.{AreNumbered};
 ghost use Rattle.ckr_entry.specs.Entry.{IsEntry, entry_in};
@@ -27,7 +27,7 @@ ghost use Rattle.ckr_desk.specs.Entries.{ArePlaced, ArePointsRead, EntriesCause,
 use crate::OpenError;
 use crate::entry_reads::{ends_within, kind_number, program_of, put, records_of};
 use ckr_base::{DsName, NoMemory};
-use ckr_desk_memory::{Jobs, StepPoint};
+use ckr_desk_refines::{Jobs, StepPoint};
 use ckr_entry::{EntryError, Mark, Point, State, decode_entry};
 use ckr_jcl::{Dd, Kind};
 use ckr_library::{DataSet, Kept};

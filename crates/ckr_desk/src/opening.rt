@@ -1,8 +1,8 @@
 //! The disk as it is opened: its layout, and the jobs that its events have brought about.
 ghost use Rattle.std.specs.Prelude.{◌≡◌, ◌≤◌, ◌+◌, ◌<◌, [], IfOk, IfErr, OnOk, IsTrue, Ok, Err, None, take, drop};
-ghost use Rattle.ckr_desk_memory.specs.EventChanges.{failed_in};
-ghost use Rattle.ckr_desk_memory.specs.Holders.{AreHolders};
-ghost use Rattle.ckr_desk_memory.specs.Invariant.{AreJobs};
+ghost use Rattle.ckr_desk_refines.specs.Memory.EventChanges.{failed_in};
+ghost use Rattle.ckr_desk_refines.specs.Memory.Holders.{AreHolders};
+ghost use Rattle.ckr_desk_refines.specs.Memory.Invariant.{AreJobs};
 ghost use Rattle.ckr_desk_turn.specs.Queue.{AreNumbered};
 ghost use Rattle.ckr_journal.specs.Events.{ReadAt, GoesOn};
 ghost use Rattle.std.specs.Option.{is_some, option_map};
@@ -30,7 +30,7 @@ use crate::machine_room::MachineRoom;
 use crate::{Desk, OpenError, Opening};
 use ckr_base::Rec;
 use ckr_console::Operator;
-use ckr_desk_memory::Jobs;
+use ckr_desk_refines::Jobs;
 use ckr_desk_store::Store;
 use ckr_events::Event;
 use ckr_journal::{LayoutError, Next, NextEventError, next_event, read_layout};

@@ -2,8 +2,8 @@
 ghost use Rattle.std.specs.Prelude.{◌≡◌, ◌≤◌, IfErr, IfOk, OnOk, None};
 ghost use Rattle.ckr_book.specs.Book.{room_of};
 ghost use Rattle.ckr_console.specs.Answering.{restart_answer};
-ghost use Rattle.ckr_desk_memory.specs.OwnSteps.{PlanCommits, PlanFollows, PlanLeaves};
-ghost use Rattle.ckr_desk_memory.specs.Plans.{HasDue, IsSpelledPlan, IsToldReply};
+ghost use Rattle.ckr_desk_refines.specs.Memory.OwnSteps.{PlanCommits, PlanFollows, PlanLeaves};
+ghost use Rattle.ckr_desk_refines.specs.Memory.Plans.{HasDue, IsSpelledPlan, IsToldReply};
 ghost use Rattle.ckr_outside.specs.Disk.{EachSince};
 ghost use Rattle.ckr_desk_refines.specs.Moves.{event_in, reply_in};
 ghost use Rattle.ckr_desk_refines.specs.Unit.{HasPassed};

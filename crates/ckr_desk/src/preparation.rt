@@ -5,7 +5,7 @@ ghost use Rattle.std.specs.Option.{option_copied};
 ghost use Rattle.ckr_book.specs.Book.{room_of};
 ghost use Rattle.ckr_console.specs.Answering.{restart_answer};
 ghost use Rattle.ckr_events.specs.Event.{IsCounted, spelling};
-ghost use Rattle.ckr_desk_memory.specs.Plans.{IsSpelledPlan};
+ghost use Rattle.ckr_desk_refines.specs.Memory.Plans.{IsSpelledPlan};
 ghost use Rattle.ckr_desk_refines.specs.Moves.{event_in};
 ghost use Rattle.ckr_points_tables.specs.Invariant.{MaySubmit};
 ghost use Rattle.ckr_desk_turn.specs.Inquiries.{decide, is_ask};
@@ -16,7 +16,7 @@ ghost use Rattle.ckr_desk.specs.Turn.{AnswerStands};
 
 use crate::{Desk, DeskError};
 use ckr_console::Operator;
-use ckr_desk_memory::{Prepared, decided, may_count};
+use ckr_desk_refines::{Prepared, decided, may_count};
 use ckr_desk_turn::Plan;
 use ckr_events::Event;
 use ckr_jcl::Job;

@@ -13,7 +13,7 @@ ghost use Rattle.ckr_desk.specs.Submit.{is_queued, purge_call};
 
 use crate::{Desk, DeskError};
 use ckr_console::Operator;
-use ckr_desk_memory::purged_follows;
+use ckr_desk_refines::purged_follows;
 use ckr_desk_turn::purged_event;
 use ckr_outside::Disk;
 

@@ -13,7 +13,7 @@ ghost use Rattle.ckr_desk.specs.Submit.{is_held_run, release_call};
 
 use crate::{Desk, DeskError};
 use ckr_console::Operator;
-use ckr_desk_memory::released_follows;
+use ckr_desk_refines::released_follows;
 use ckr_desk_turn::released_event;
 use ckr_outside::Disk;
 

@@ -1,6 +1,6 @@
 //! The record that an event tells of.
 ghost use Rattle.std.specs.Prelude.{◌≡◌, ◌≤◌, IfErr, OnOk, None};
-ghost use Rattle.ckr_desk_memory.specs.Rewrite.{HasRecordPlace};
+ghost use Rattle.ckr_desk_refines.specs.Memory.Rewrite.{HasRecordPlace};
 ghost use Rattle.ckr_outside.specs.Disk.{EachSince, Only};
 ghost use Rattle.ckr_desk_store.specs.OpenImages.{event_records};
 ghost use Rattle.ckr_desk_store.specs.State.{IsSound};

@@ -1,7 +1,7 @@
 //! Turns, from where the desk stands.
 ghost use Rattle.std.specs.Prelude.{◌≡◌, ◌≤◌, IfErr, IfOk, OnOk, None};
 ghost use Rattle.ckr_book.specs.Book.{room_of};
-ghost use Rattle.ckr_desk_memory.specs.Plans.{IsAnyCode, IsToldReply};
+ghost use Rattle.ckr_desk_refines.specs.Memory.Plans.{IsAnyCode, IsToldReply};
 ghost use Rattle.ckr_desk_turn.specs.Invariant.{IsTurnOf};
 ghost use Rattle.ckr_desk.specs.Attendance.{HasAttended, LacksBy, RoomStands, RoomStays, attended, attended_event, attended_reply, behind_attended};
 ghost use Rattle.ckr_desk.specs.CallOutcomes.{HasComeTo, KeepsDesk};

@@ -3,11 +3,11 @@ ghost use Rattle.std.specs.Prelude.{◌≡◌, ◌≤◌, ℕ, IfErr, IfOk, OnOk
 ghost use Rattle.ckr_book.specs.Book.{room_of};
 ghost use Rattle.ckr_console.specs.Answering.{restart_answer};
 ghost use Rattle.ckr_console.specs.declared.question.Answer.{Answer as AnswerOf};
-ghost use Rattle.ckr_desk_memory.specs.Invariant.{IsRunnable};
-ghost use Rattle.ckr_desk_memory.specs.OwnSteps.{PlanCommits};
-ghost use Rattle.ckr_desk_memory.specs.Parts.{step_seen};
-ghost use Rattle.ckr_desk_memory.specs.Plans.{HasDue, IsToldReply, IsWent};
-ghost use Rattle.ckr_desk_memory.specs.View.{RunningStepView as RunningStepOf};
+ghost use Rattle.ckr_desk_refines.specs.Memory.Invariant.{IsRunnable};
+ghost use Rattle.ckr_desk_refines.specs.Memory.OwnSteps.{PlanCommits};
+ghost use Rattle.ckr_desk_refines.specs.Memory.Parts.{step_seen};
+ghost use Rattle.ckr_desk_refines.specs.Memory.Plans.{HasDue, IsToldReply, IsWent};
+ghost use Rattle.ckr_desk_refines.specs.Memory.View.{RunningStepView as RunningStepOf};
 ghost use Rattle.ckr_meaning.specs.EffectiveJob.{OwnedStep};
 ghost use Rattle.ckr_points.specs.Rows.{RunRow};
 ghost use Rattle.ckr_meaning.specs.StepRun.{StepStart};
@@ -32,7 +32,7 @@ ghost use Rattle.ckr_desk.specs.Units.{HasDoneUnit, HasTurned, IsAt, IsPlanned, 
 use crate::preparation::Ready;
 use crate::{Desk, DeskError};
 use ckr_console::Operator;
-use ckr_desk_memory::RunningStep;
+use ckr_desk_refines::RunningStep;
 use ckr_desk_store::Store;
 use ckr_desk_turn::{Plan, Reply};
 use ckr_outside::Disk;

@@ -7,3 +7,4 @@ pub mod Units
 pub mod Entries
 pub mod Checkpoints
 pub mod Counts
+pub mod Memory

@@ -15,3 +15,4 @@ pub mod Entries
 pub mod EntryRefusal
 pub mod Checkpoints
 pub mod Counts
+pub mod Memory

@@ -49,3 +49,9 @@ pub use unit_laws::{
     desks_behind_units_stand, running_steps_have_a_unit_due,
     turns_that_work_tell_what_the_unit_came_to, turns_that_work_tell_what_was_foretold,
 };
+
+// The jobs in memory, and what is asked of them, of the crates below.
+pub use ckr_desk_memory::{
+    Checkpoint, Jobs, Prepared, RunningStep, StepPoint, decided, entry_of_syschk, may_count,
+    purged_follows, released_follows, run_now, run_wanting, set_of_syschk, shared_deck,
+};

@@ -4,7 +4,7 @@ use Rattle.ckr_jcl.specs.declared.deck.Job.{Job}
 use Rattle.ckr_jcl_decks.proofs.CardLimit.{few-stored}
 use Rattle.ckr_jcl_decks.specs.Deck.{stored_deck}
 use Rattle.ckr_jcl_decks.specs.Parts.Fault.{Fault}
-use Rattle.ckr_desk_memory.specs.Invariant.{IsAcceptedRow}
+use Rattle.ckr_desk_refines.specs.Memory.Invariant.{IsAcceptedRow}
 use Rattle.ckr_points.specs.Tables.{queued_run}
 use Rattle.ckr_desk_turn.proofs.AdmittedSteps.{own-step}
 use Rattle.ckr_desk_turn.specs.Submissions.{submission_by, submission_of}

@@ -9,7 +9,7 @@ use Rattle.ckr_events.specs.declared.event.Event.TheVariants.{Submitted, Purged,
 use Rattle.ckr_events.specs.Event.{IsEvent, spelling}
 use Rattle.ckr_jcl.specs.declared.deck.Job.{Job}
 use Rattle.ckr_jcl_decks.specs.Deck.{stored_deck}
-use Rattle.ckr_desk_memory.specs.Replay.{deck_of, goes_on, has_few_digits}
+use Rattle.ckr_desk_refines.specs.Memory.Replay.{deck_of, goes_on, has_few_digits}
 use Rattle.ckr_desk_turn.proofs.NextEvents.BetweenSteps.{purged_comes, released_comes}
 use Rattle.ckr_desk_turn.proofs.Select.{purged-keeps, released-keeps, stored-comes, stored-keeps}
 use Rattle.ckr_desk_turn.specs.Invariant.{IsDesk}

@@ -6,7 +6,7 @@ use Rattle.ckr_book.specs.Book.{room_of}
 use Rattle.ckr_events.specs.declared.event.Event.TheVariants.{Purged, Released}
 use Rattle.ckr_events.specs.Event.{IsEvent}
 use Rattle.ckr_jcl.specs.declared.deck.Job.{Job}
-use Rattle.ckr_desk_memory.proofs.Queue.{run-there}
+use Rattle.ckr_desk_refines.proofs.Memory.Queue.{run-there}
 use Rattle.ckr_outside.specs.Disk.{EachSince}
 use Rattle.ckr_outside.specs.Moments.{in_other_words, started}
 use Rattle.ckr_points.specs.declared.run.RunState.{RunState}

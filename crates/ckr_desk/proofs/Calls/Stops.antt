@@ -4,11 +4,11 @@ use Rattle.ckr_base.proofs.Options.{some-not-none}
 use Rattle.ckr_book.specs.Book.{IsBeforeOrAfter, room_of}
 use Rattle.ckr_events.specs.declared.event.Event.{Event}
 use Rattle.ckr_events.specs.Event.{spelling}
-use Rattle.ckr_desk_memory.specs.EventChanges.{points_behind}
-use Rattle.ckr_desk_memory.specs.Model.RewriteCounts.{may_count}
+use Rattle.ckr_desk_refines.specs.Memory.EventChanges.{points_behind}
+use Rattle.ckr_desk_refines.specs.Memory.RewriteCounts.{may_count}
 use Rattle.ckr_jcl.specs.declared.deck.Job.{Job}
-use Rattle.ckr_desk_memory.specs.RunningSteps.{GoesOn}
-use Rattle.ckr_desk_memory.specs.View.{JobsView, PointView, RunningStepView}
+use Rattle.ckr_desk_refines.specs.Memory.RunningSteps.{GoesOn}
+use Rattle.ckr_desk_refines.specs.Memory.View.{JobsView, PointView, RunningStepView}
 use Rattle.ckr_library.specs.declared.sets.DataSet.{DataSet}
 use Rattle.ckr_outside.specs.Disk.{ChangesWithin, EachSince, Only, OnlyReads, SameOutside, StemsFrom}
 use Rattle.ckr_outside.specs.Moments.{and_then, both_since, in_other_words, started}

@@ -3,13 +3,13 @@ use Rattle.std.proofs.Common.{◌≡◌, ◌<◌, ℕ, false, true, find, ap, sy
 use Rattle.std.specs.Option.{is_some}
 use Rattle.ckr_base.proofs.Numbers.{equal-true}
 use Rattle.ckr_base.proofs.Sequences.{find-passes}
-use Rattle.ckr_desk_memory.specs.declared.checkpoint.Checkpoint.{Checkpoint}
-use Rattle.ckr_desk_memory.specs.Checkpoints.{HasEntrySpace, IsCheckpointOf}
-use Rattle.ckr_desk_memory.specs.Entries.{next_entry, next_id, step_now}
+use Rattle.ckr_desk_refines.specs.Memory.Checkpoint.{Checkpoint}
+use Rattle.ckr_desk_refines.specs.Memory.Checkpoints.{HasEntrySpace, IsCheckpointOf}
+use Rattle.ckr_desk_refines.specs.Memory.Entries.{next_entry, next_id, step_now}
 use Rattle.ckr_desk_turn.specs.Checkpoints.{id_in}
-use Rattle.ckr_desk_memory.specs.EventChanges.{is_of_run}
-use Rattle.ckr_desk_memory.specs.OwnSets.{CommitsItsOwn, IsRunningOf}
-use Rattle.ckr_desk_memory.specs.View.{RunningStepView}
+use Rattle.ckr_desk_refines.specs.Memory.EventChanges.{is_of_run}
+use Rattle.ckr_desk_refines.specs.Memory.OwnSets.{CommitsItsOwn, IsRunningOf}
+use Rattle.ckr_desk_refines.specs.Memory.View.{RunningStepView}
 use Rattle.ckr_meaning.specs.EffectiveJob.{OwnedStep}
 use Rattle.ckr_points.specs.Follows.{follows}
 use Rattle.ckr_points.specs.Rows.{RunRow, TablesModel, run_of, step_of_run}

@@ -3,8 +3,8 @@ use Rattle.std.proofs.Common.{◌≡◌, ◌<◌, ℕ, Bool, true, false, List, 
 use Rattle.ckr_base.proofs.Bools.{bool-cases}
 use Rattle.ckr_book.specs.Book.{room_of}
 use Rattle.ckr_console.specs.declared.question.Answer.{Answer}
-use Rattle.ckr_desk_memory.specs.Plans.{HasDue}
-use Rattle.ckr_desk_memory.specs.View.{RunningStepView, jobs_of}
+use Rattle.ckr_desk_refines.specs.Memory.Plans.{HasDue}
+use Rattle.ckr_desk_refines.specs.Memory.View.{RunningStepView, jobs_of}
 use Rattle.ckr_desk_refines.proofs.Checkpoints.Turn.{taken-by}
 use Rattle.ckr_desk_turn.specs.Checkpoints.{checkpoint_fits, checkpoint_try}
 use Rattle.ckr_desk_turn.specs.declared.plan.Plan.TheVariants.{Take}

@@ -2,11 +2,11 @@
 use Rattle.std.proofs.Common.{◌≡◌, ℕ, List, length, refl, ap, sym, ◌∙◌, subst, Some}
 use Rattle.ckr_base.proofs.Numbers.{equal-true}
 use Rattle.ckr_base.proofs.Sequences.{find-passes}
-use Rattle.ckr_desk_memory.specs.EventChanges.{is_of_run}
+use Rattle.ckr_desk_refines.specs.Memory.EventChanges.{is_of_run}
 use Rattle.ckr_entry.specs.Entry.{IsEntry, spelling as bytes_of}
-use Rattle.ckr_desk_memory.specs.declared.checkpoint.Checkpoint.{Checkpoint}
-use Rattle.ckr_desk_memory.specs.Checkpoints.{IsCheckpointOf}
-use Rattle.ckr_desk_memory.specs.View.{RunningStepView, jobs_of}
+use Rattle.ckr_desk_refines.specs.Memory.Checkpoint.{Checkpoint}
+use Rattle.ckr_desk_refines.specs.Memory.Checkpoints.{IsCheckpointOf}
+use Rattle.ckr_desk_refines.specs.Memory.View.{RunningStepView, jobs_of}
 use Rattle.ckr_library.specs.Catalog.{records_of}
 use Rattle.ckr_library.specs.declared.sets.DataSet.{DataSet}
 use Rattle.ckr_meaning.specs.EffectiveJob.{OwnedStep, names_of}

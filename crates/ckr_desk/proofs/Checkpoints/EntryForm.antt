@@ -5,11 +5,11 @@ use Rattle.std.proofs.lemmas.Bool.{false≢true}
 use Rattle.ckr_base.specs.declared.programs.NextDue.TheVariants.{Checkpoint as CheckpointDue}
 use Rattle.ckr_entry.specs.Entry.{IsEntry}
 use Rattle.ckr_entry.specs.Parts.{Entry}
-use Rattle.ckr_desk_memory.specs.Checkpoints.{IsCheckpointOf}
-use Rattle.ckr_desk_memory.specs.declared.checkpoint.Checkpoint.{Checkpoint}
-use Rattle.ckr_desk_memory.specs.Entries.{entry_end, entry_to, fits_in, step_now}
-use Rattle.ckr_desk_memory.specs.EntryModels.{IsAsFar}
-use Rattle.ckr_desk_memory.specs.View.{JobsView, RunningStepView}
+use Rattle.ckr_desk_refines.specs.Memory.Checkpoints.{IsCheckpointOf}
+use Rattle.ckr_desk_refines.specs.Memory.Checkpoint.{Checkpoint}
+use Rattle.ckr_desk_refines.specs.Memory.Entries.{entry_end, entry_to, fits_in, step_now}
+use Rattle.ckr_desk_refines.specs.Memory.EntryModels.{IsAsFar}
+use Rattle.ckr_desk_refines.specs.Memory.View.{JobsView, RunningStepView}
 use Rattle.ckr_jcl.specs.declared.deck.Parm.{Parm}
 use Rattle.ckr_meaning.specs.EffectiveJob.{OwnedStep}
 use Rattle.ckr_meaning.specs.StepRun.{StepStart, case_at}

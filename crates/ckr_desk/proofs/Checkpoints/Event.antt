@@ -7,13 +7,13 @@ use Rattle.ckr_book.specs.Book.{IsBeforeOrAfter, ends_closed, room_of}
 use Rattle.ckr_console.specs.declared.question.Answer.{Answer}
 use Rattle.ckr_events.specs.declared.event.Event.{Event}
 use Rattle.ckr_events.specs.Event.{spelling}
-use Rattle.ckr_desk_memory.specs.declared.checkpoint.Checkpoint.{Checkpoint}
-use Rattle.ckr_desk_memory.specs.EventChanges.{points_behind}
-use Rattle.ckr_desk_memory.specs.Model.RewriteCounts.{may_count}
-use Rattle.ckr_desk_memory.specs.Replay.{deck_of, goes_on, has_few_digits}
+use Rattle.ckr_desk_refines.specs.Memory.Checkpoint.{Checkpoint}
+use Rattle.ckr_desk_refines.specs.Memory.EventChanges.{points_behind}
+use Rattle.ckr_desk_refines.specs.Memory.RewriteCounts.{may_count}
+use Rattle.ckr_desk_refines.specs.Memory.Replay.{deck_of, goes_on, has_few_digits}
 use Rattle.ckr_desk.proofs.Turns.Events.{small-digits}
-use Rattle.ckr_desk_memory.specs.RunningSteps.{GoesOn}
-use Rattle.ckr_desk_memory.specs.View.{JobsView, RunningStepView, jobs_of}
+use Rattle.ckr_desk_refines.specs.Memory.RunningSteps.{GoesOn}
+use Rattle.ckr_desk_refines.specs.Memory.View.{JobsView, RunningStepView, jobs_of}
 use Rattle.ckr_jcl.specs.declared.deck.Job.{Job}
 use Rattle.ckr_outside.specs.Disk.{EachSince, Only, part}
 use Rattle.ckr_outside.specs.Moments.{and_then}

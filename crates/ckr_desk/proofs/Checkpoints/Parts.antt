@@ -7,10 +7,10 @@ use Rattle.ckr_desk_turn.proofs.PassedLists.{passed-few}
 use Rattle.ckr_base.proofs.Bools.{and-second}
 use Rattle.ckr_base.specs.Grammar.{is_check_id}
 use Rattle.ckr_base.proofs.Numbers.{nat_lt-from}
-use Rattle.ckr_desk_memory.specs.Entries.{is_written}
-use Rattle.ckr_desk_memory.specs.EntryModels.{HasCheckRecords}
-use Rattle.ckr_desk_memory.specs.EventChanges.{is_of_run}
-use Rattle.ckr_desk_memory.specs.View.{RunningStepView, jobs_of}
+use Rattle.ckr_desk_refines.specs.Memory.Entries.{is_written}
+use Rattle.ckr_desk_refines.specs.Memory.EntryModels.{HasCheckRecords}
+use Rattle.ckr_desk_refines.specs.Memory.EventChanges.{is_of_run}
+use Rattle.ckr_desk_refines.specs.Memory.View.{RunningStepView, jobs_of}
 use Rattle.ckr_library.specs.NameMaps.{Name, Named, entry_at}
 use Rattle.ckr_meaning.specs.StepRun.{StepStart}
 use Rattle.ckr_points.specs.Restart.{kept_at}

@@ -2,8 +2,8 @@
 use Rattle.std.proofs.Common.{◌≡◌, ◌++◌, ℕ, List, [], ◌∷◌, None, Ok, Err}
 use Rattle.ckr_console.specs.declared.question.Answer.{Answer}
 use Rattle.ckr_events.specs.Event.{spelling}
-use Rattle.ckr_desk_memory.specs.declared.checkpoint.Checkpoint.{Checkpoint}
-use Rattle.ckr_desk_memory.specs.View.{jobs_of}
+use Rattle.ckr_desk_refines.specs.Memory.Checkpoint.{Checkpoint}
+use Rattle.ckr_desk_refines.specs.Memory.View.{jobs_of}
 use Rattle.ckr_outside.specs.Disk.{EachSince, Only}
 use Rattle.ckr_outside.specs.Moments.{in_other_words}
 use Rattle.ckr_desk_refines.specs.Moves.{HasSameRecords}

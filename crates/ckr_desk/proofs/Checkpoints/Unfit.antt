@@ -5,9 +5,9 @@ use Rattle.std.specs.Option.{is_some}
 use Rattle.std.proofs.lemmas.Bool.{true≢false}
 use Rattle.ckr_console.specs.declared.question.Answer.{Answer}
 use Rattle.ckr_entry.specs.Parts.{Entry}
-use Rattle.ckr_desk_memory.proofs.EntryModels.{next-same}
-use Rattle.ckr_desk_memory.specs.Entries.{is_written, next_entry}
-use Rattle.ckr_desk_memory.specs.View.{JobsView, RunningStepView, jobs_of}
+use Rattle.ckr_desk_refines.proofs.Memory.EntryModels.{next-same}
+use Rattle.ckr_desk_refines.specs.Memory.Entries.{is_written, next_entry}
+use Rattle.ckr_desk_refines.specs.Memory.View.{JobsView, RunningStepView, jobs_of}
 use Rattle.ckr_meaning.specs.EffectiveJob.{OwnedStep}
 use Rattle.ckr_meaning.specs.StepRun.{StepStart}
 use Rattle.ckr_outside.specs.Disk.{EachSince}

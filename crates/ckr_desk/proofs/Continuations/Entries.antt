@@ -16,8 +16,8 @@ use Rattle.ckr_library.specs.NameMaps.{EachEntry, Name, entry_at, same_name}
 use Rattle.ckr_library.specs.declared.sets.Kept.{Kept}
 use Rattle.ckr_library.specs.declared.sets.DataSet.{DataSet}
 use Rattle.ckr_library.proofs.Named.{each-at}
-use Rattle.ckr_desk_memory.specs.Parts.{IsPointCounted}
-use Rattle.ckr_desk_memory.specs.View.{PointView}
+use Rattle.ckr_desk_refines.specs.Memory.Parts.{IsPointCounted}
+use Rattle.ckr_desk_refines.specs.Memory.View.{PointView}
 use Rattle.ckr_points.specs.Restart.{kept_at, syschk_name}
 use Rattle.ckr_points.specs.Rows.{EntryPoint, KeptEntry, RunRow, TableSet, TablesModel, run_of}
 use Rattle.ckr_points.specs.Statements.{kind_number}

@@ -21,10 +21,10 @@ use Rattle.ckr_points_invariant.specs.EarlierRuns.{MayContinue}
 use Rattle.ckr_points_invariant.proofs.Continuations.Follows.{may-continue}
 use Rattle.ckr_rules.specs.declared.cases.Rule.{Rule}
 use Rattle.ckr_volumes.specs.declared.layout.Layout.{Layout}
-use Rattle.ckr_desk_memory.specs.EventChanges.{is_point_of}
-use Rattle.ckr_desk_memory.specs.OwnSteps.{KnowsItsPoint, PlanFollows}
-use Rattle.ckr_desk_memory.specs.Plans.{NeedsRoom}
-use Rattle.ckr_desk_memory.specs.View.{PointView, jobs_of}
+use Rattle.ckr_desk_refines.specs.Memory.EventChanges.{is_point_of}
+use Rattle.ckr_desk_refines.specs.Memory.OwnSteps.{KnowsItsPoint, PlanFollows}
+use Rattle.ckr_desk_refines.specs.Memory.Plans.{NeedsRoom}
+use Rattle.ckr_desk_refines.specs.Memory.View.{PointView, jobs_of}
 use Rattle.ckr_desk_turn.proofs.Turns.Initiator.{turn-keeps}
 use Rattle.ckr_desk_turn.specs.Desk.{DeskModel, TurnDone}
 use Rattle.ckr_desk_turn.specs.Turns.{IsMountedTurnOf, MountedTurn, plan_for}

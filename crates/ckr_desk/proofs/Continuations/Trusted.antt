@@ -28,8 +28,8 @@ use Rattle.ckr_steps.specs.EntryRecords.{bytes_on}
 use Rattle.ckr_steps.specs.Units.{program_of}
 use Rattle.ckr_volumes.specs.declared.layout.Layout.{Layout}
 use Rattle.ckr_volumes.specs.Layouts.{StandsIn}
-use Rattle.ckr_desk_memory.specs.EventChanges.{is_point_of}
-use Rattle.ckr_desk_memory.specs.View.{PointView}
+use Rattle.ckr_desk_refines.specs.Memory.EventChanges.{is_point_of}
+use Rattle.ckr_desk_refines.specs.Memory.View.{PointView}
 use Rattle.ckr_desk_turn.specs.Checkpoints.{entry_with}
 use Rattle.ckr_desk_refines.specs.Entries.{AreWithin, HasEntries, IsReadBack, IsWantedRead, jobs_of, program_at}
 use Rattle.ckr_desk_refines.proofs.Entries.Images.{read-back}

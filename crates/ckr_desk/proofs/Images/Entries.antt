@@ -6,8 +6,8 @@ use Rattle.ckr_base.proofs.Sequences.{find-holds}
 use Rattle.ckr_events.specs.declared.event.Event.{Event}
 use Rattle.ckr_events.specs.declared.event.Event.TheVariants.{Checkpointed}
 use Rattle.ckr_events.specs.Event.{spelling}
-use Rattle.ckr_desk_memory.specs.Replay.{deck_of}
-use Rattle.ckr_desk_memory.proofs.Replays.{replayed-some}
+use Rattle.ckr_desk_refines.specs.Memory.Replay.{deck_of}
+use Rattle.ckr_desk_refines.proofs.Memory.Replays.{replayed-some}
 use Rattle.ckr_desk_refines.proofs.Entries.Checkpoint.{has-taken}
 use Rattle.ckr_desk_refines.proofs.Entries.CheckSets.{sound-plain}
 use Rattle.ckr_desk_refines.proofs.Entries.Events.{has-next}

@@ -5,7 +5,7 @@ use Rattle.ckr_events.proofs.Events.{event_again}
 use Rattle.ckr_events.specs.declared.event.Event.{Event}
 use Rattle.ckr_events.specs.declared.event.Event.TheVariants.{Submitted}
 use Rattle.ckr_events.specs.Event.{IsEvent, IsSmall, event_of, spelling}
-use Rattle.ckr_desk_memory.specs.Replay.{deck_of, replayed}
+use Rattle.ckr_desk_refines.specs.Memory.Replay.{deck_of, replayed}
 use Rattle.ckr_points.specs.Events.{AreSound, IsNext}
 use Rattle.ckr_points.specs.Office.{office, office_after}
 use Rattle.ckr_points.specs.Restart.{Decked}

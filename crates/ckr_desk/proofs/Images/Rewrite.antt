@@ -6,7 +6,7 @@ use Rattle.ckr_base.proofs.Options.{some-not-none}
 use Rattle.arrayvec.specs.ArrayVec.{ArrayVec}
 use Rattle.ckr_events.specs.declared.event.Event.{Event}
 use Rattle.ckr_events.specs.declared.event.Event.TheVariants.{Rewritten}
-use Rattle.ckr_desk_memory.specs.Rewrite.{HasPlaceFor, HasRecordPlace, updated_by}
+use Rattle.ckr_desk_refines.specs.Memory.Rewrite.{HasPlaceFor, HasRecordPlace, updated_by}
 use Rattle.ckr_library.specs.declared.sets.DataSet.{DataSet}
 use Rattle.ckr_library.specs.Catalog.{Catalog, Holding, set_of}
 use Rattle.ckr_library.specs.NameMaps.{EachEntry, Name, Named, entry_at}

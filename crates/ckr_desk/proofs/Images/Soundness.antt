@@ -5,8 +5,8 @@ use Rattle.ckr_book.specs.Records.{end_from}
 use Rattle.ckr_events.specs.declared.event.Event.{Event}
 use Rattle.ckr_events.specs.declared.event.Event.TheVariants.{Submitted}
 use Rattle.ckr_events.specs.Event.{spelling}
-use Rattle.ckr_desk_memory.specs.Replay.{deck_of}
-use Rattle.ckr_desk_memory.proofs.Replays.{replayed-some}
+use Rattle.ckr_desk_refines.specs.Memory.Replay.{deck_of}
+use Rattle.ckr_desk_refines.proofs.Memory.Replays.{replayed-some}
 use Rattle.ckr_desk_refines.specs.Commits.{HasCommitted}
 use Rattle.ckr_desk_refines.specs.Entries.{HasEntries}
 use Rattle.ckr_desk_refines.specs.Moves.{HasSameRecords}

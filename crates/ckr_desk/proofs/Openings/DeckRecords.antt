@@ -6,8 +6,8 @@ use Rattle.ckr_base.proofs.Options.{is_some-true}
 use Rattle.ckr_events.specs.declared.event.Event.{Event}
 use Rattle.ckr_events.specs.declared.event.Event.TheVariants.{Submitted}
 use Rattle.ckr_events.specs.Event.{event_of}
-use Rattle.ckr_desk_memory.specs.Model.RewriteCounts.{may_count}
-use Rattle.ckr_desk_memory.specs.Replay.{deck_of, goes_on, has_few_digits, replayed}
+use Rattle.ckr_desk_refines.specs.Memory.RewriteCounts.{may_count}
+use Rattle.ckr_desk_refines.specs.Memory.Replay.{deck_of, goes_on, has_few_digits, replayed}
 use Rattle.ckr_desk_turn.specs.DeckEvents.{AreDeckEvents, IsDeckEvent, IsKeptDeck}
 use Rattle.ckr_points.specs.Follows.{follows, is_empty}
 use Rattle.ckr_points.specs.Restart.{after_event}

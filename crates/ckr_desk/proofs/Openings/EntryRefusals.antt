@@ -10,8 +10,8 @@ use Rattle.ckr_library.specs.Catalog.{Catalog, Holding, ends_within, set_of}
 use Rattle.ckr_library.specs.NameMaps.{Name, Named, entry_at}
 use Rattle.ckr_library.specs.declared.sets.DataSet.{DataSet}
 use Rattle.ckr_library.proofs.Named.{at-viewed}
-use Rattle.ckr_desk_memory.specs.Plans.{row_for}
-use Rattle.ckr_desk_memory.specs.View.{PointView}
+use Rattle.ckr_desk_refines.specs.Memory.Plans.{row_for}
+use Rattle.ckr_desk_refines.specs.Memory.View.{PointView}
 use Rattle.ckr_points.specs.Office.{is_holder}
 use Rattle.ckr_points.specs.Rows.{EffectPoint, RunRow, TableSet, TablesModel, holding_of, run_of}
 use Rattle.ckr_points.specs.declared.run.Run.{Run}

@@ -11,7 +11,7 @@ use Rattle.ckr_base.proofs.Sequences.{set-again}
 use Rattle.arrayvec.specs.ArrayVec.{ArrayVec}
 use Rattle.ckr_events.specs.declared.event.Event.{Event}
 use Rattle.ckr_events.specs.declared.event.Event.TheVariants.{Rewritten}
-use Rattle.ckr_desk_memory.specs.Rewrite.{updated_by}
+use Rattle.ckr_desk_refines.specs.Memory.Rewrite.{updated_by}
 use Rattle.ckr_desk_refines.specs.Commits.{HasCommitted}
 use Rattle.ckr_library.specs.declared.sets.Content.{Content}
 use Rattle.ckr_library.specs.declared.sets.Content.TheVariants.{Checkpoints, Plain}

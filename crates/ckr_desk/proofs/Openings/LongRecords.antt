@@ -5,8 +5,8 @@ use Rattle.ckr_events.specs.declared.event.Event.{Event}
 use Rattle.ckr_events.specs.declared.event.Event.TheVariants.{Submitted}
 use Rattle.ckr_events.specs.Event.{event_of, most_bytes}
 use Rattle.ckr_events.proofs.Sizes.{short_events}
-use Rattle.ckr_desk_memory.proofs.Replays.{replayed-none}
-use Rattle.ckr_desk_memory.specs.Replay.{deck_of, goes_on, replayed}
+use Rattle.ckr_desk_refines.proofs.Memory.Replays.{replayed-none}
+use Rattle.ckr_desk_refines.specs.Memory.Replay.{deck_of, goes_on, replayed}
 use Rattle.ckr_jcl_decks.proofs.CardLimit.{few-stored}
 use Rattle.ckr_desk_turn.proofs.KeptDecks.{kept_read, stored_long}
 use Rattle.ckr_desk_turn.specs.DeckEvents.{IsKeptDeck}

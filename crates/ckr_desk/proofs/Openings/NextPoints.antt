@@ -2,8 +2,8 @@
 use Rattle.std.proofs.Common.{◌≡◌, ◌+◌, ◌++◌, ℕ, List, [], ◌∷◌, slice_get, map, ap, sym, ◌∙◌, subst, Option, None, Some, option_and_then, Result, Ok}
 use Rattle.std.specs.List.{AllByRecursion}
 use Rattle.ckr_base.proofs.Sequences.{each-append}
-use Rattle.ckr_desk_memory.specs.Parts.{IsPointCounted}
-use Rattle.ckr_desk_memory.specs.View.{PointView}
+use Rattle.ckr_desk_refines.specs.Memory.Parts.{IsPointCounted}
+use Rattle.ckr_desk_refines.specs.Memory.View.{PointView}
 use Rattle.ckr_desk_turn.specs.Queue.{AreNumbered}
 use Rattle.ckr_points.specs.Rows.{RunRow, TablesModel, run_of}
 use Rattle.ckr_points.specs.declared.run.Run.{Run}

@@ -21,10 +21,10 @@ use Rattle.ckr_points.specs.Office.{is_holder}
 use Rattle.ckr_points.specs.Restart.{place_of, step_in}
 use Rattle.ckr_points.specs.Rows.{EffectPoint, RunRow, TablesModel, run_of}
 use Rattle.ckr_points.specs.Statements.{kind_number}
-use Rattle.ckr_desk_memory.specs.EventChanges.{is_point_of}
-use Rattle.ckr_desk_memory.specs.OwnSteps.{HavePoints}
-use Rattle.ckr_desk_memory.specs.Parts.{IsPointCounted}
-use Rattle.ckr_desk_memory.specs.View.{PointView}
+use Rattle.ckr_desk_refines.specs.Memory.EventChanges.{is_point_of}
+use Rattle.ckr_desk_refines.specs.Memory.OwnSteps.{HavePoints}
+use Rattle.ckr_desk_refines.specs.Memory.Parts.{IsPointCounted}
+use Rattle.ckr_desk_refines.specs.Memory.View.{PointView}
 use Rattle.ckr_desk_refines.specs.Entries.{AreRead}
 use Rattle.ckr_desk_refines.specs.EntryRefusal.{are_present, fault_in, is_of_run, is_of_step}
 use Rattle.ckr_desk_turn.proofs.Checkpoints.Ranges.{entry-range}

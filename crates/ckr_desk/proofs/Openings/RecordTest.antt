@@ -5,7 +5,7 @@ use Rattle.std.proofs.lemmas.Bool.{false≢true}
 use Rattle.arrayvec.specs.ArrayVec.{ArrayVec}
 use Rattle.ckr_events.specs.declared.event.Event.{Event}
 use Rattle.ckr_events.specs.declared.event.Event.TheVariants.{Rewritten}
-use Rattle.ckr_desk_memory.specs.Rewrite.{updated_by}
+use Rattle.ckr_desk_refines.specs.Memory.Rewrite.{updated_by}
 use Rattle.ckr_library.specs.Catalog.{Catalog, Holding, set_of}
 use Rattle.ckr_library.specs.declared.sets.DataSet.{DataSet}
 use Rattle.ckr_library.specs.NameMaps.{Name, entry_at}

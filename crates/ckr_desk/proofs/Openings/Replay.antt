@@ -7,9 +7,9 @@ use Rattle.ckr_book.specs.Records.{records_from, end_from, starts_open}
 use Rattle.ckr_book.specs.Next.{NoneAt, LeadsLong, LeadsWith}
 use Rattle.ckr_events.specs.declared.event.Event.{Event}
 use Rattle.ckr_events.specs.Event.{spelling, event_of}
-use Rattle.ckr_desk_memory.proofs.RunNumbers.{numbered-behind}
-use Rattle.ckr_desk_memory.proofs.Replays.{goes-on-with}
-use Rattle.ckr_desk_memory.specs.Replay.{deck_of, goes_on, replayed}
+use Rattle.ckr_desk_refines.proofs.Memory.RunNumbers.{numbered-behind}
+use Rattle.ckr_desk_refines.proofs.Memory.Replays.{goes-on-with}
+use Rattle.ckr_desk_refines.specs.Memory.Replay.{deck_of, goes_on, replayed}
 use Rattle.ckr_desk_turn.specs.Queue.{AreNumbered}
 use Rattle.ckr_journal.specs.declared.events.Next.{Next}
 use Rattle.ckr_journal.specs.declared.events.Next.TheVariants as Nexts

@@ -6,8 +6,8 @@ use Rattle.ckr_base.proofs.Options.{some-not-none}
 use Rattle.ckr_book.specs.Book.{IsOpenOn, OpenBook, ends_closed, room_of}
 use Rattle.ckr_book.specs.Records.{end_from, starts_open}
 use Rattle.ckr_events.specs.declared.event.Event.{Event}
-use Rattle.ckr_desk_memory.specs.EventChanges.{failed_in}
-use Rattle.ckr_desk_memory.specs.View.{RunningStepView}
+use Rattle.ckr_desk_refines.specs.Memory.EventChanges.{failed_in}
+use Rattle.ckr_desk_refines.specs.Memory.View.{RunningStepView}
 use Rattle.ckr_desk_turn.proofs.Opening.{opened-is}
 use Rattle.ckr_desk_turn.proofs.Runs.Lists.{events-kept, events-run}
 use Rattle.ckr_desk_turn.specs.Invariant.{HasRuns}

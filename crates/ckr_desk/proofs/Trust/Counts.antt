@@ -18,10 +18,10 @@ use Rattle.ckr_points.specs.Events.{AreSound}
 use Rattle.ckr_points.specs.Office.{office}
 use Rattle.ckr_points.specs.Restart.{Decked}
 use Rattle.ckr_points.specs.Rows.{TableSet, TablesModel}
-use Rattle.ckr_desk_memory.specs.Model.RewriteCounts.{has_few_rewrites, have_few_rewrites, may_count}
+use Rattle.ckr_desk_refines.specs.Memory.RewriteCounts.{has_few_rewrites, have_few_rewrites, may_count}
 use Rattle.ckr_volumes.specs.declared.layout.Layout.{Layout}
 use Rattle.ckr_volumes.specs.Header.{IsHeader}
-use Rattle.ckr_desk_memory.specs.Replay.{deck_of}
+use Rattle.ckr_desk_refines.specs.Memory.Replay.{deck_of}
 use Rattle.ckr_desk_refines.proofs.Counts.Bytes.{deck-long, event-adds}
 use Rattle.ckr_desk_refines.proofs.Counts.Events.{sound-few}
 use Rattle.ckr_desk_refines.proofs.Counts.Runs.{sound-cards, sound-runs}

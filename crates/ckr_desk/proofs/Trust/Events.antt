@@ -2,8 +2,8 @@
 use Rattle.std.proofs.Common.{◌≡◌, ◌++◌, ℕ, List, [], ◌∷◌, true, refl, ap, sym, ◌∙◌, subst, Some, Ok}
 use Rattle.ckr_events.specs.declared.event.Event.{Event}
 use Rattle.ckr_events.specs.Event.{IsEvent, spelling}
-use Rattle.ckr_desk_memory.specs.Replay.{deck_of, goes_on}
-use Rattle.ckr_desk_memory.proofs.Replays.{replayed-some}
+use Rattle.ckr_desk_refines.specs.Memory.Replay.{deck_of, goes_on}
+use Rattle.ckr_desk_refines.proofs.Memory.Replays.{replayed-some}
 use Rattle.ckr_desk_turn.specs.Invariant.{IsDesk}
 use Rattle.ckr_desk_refines.specs.Commits.{HasCommitted}
 use Rattle.ckr_desk_refines.specs.Entries.{HasEntries}

@@ -4,8 +4,8 @@ use Rattle.std.proofs.lemmas.Bool.{false≢true}
 use Rattle.std.specs.Option.{option_map_or}
 use Rattle.ckr_base.proofs.Bools.{and-first}
 use Rattle.ckr_book.specs.Book.{room_of}
-use Rattle.ckr_desk_memory.specs.Invariant.{is_in_step}
-use Rattle.ckr_desk_memory.specs.View.{JobsView, RunningStepView}
+use Rattle.ckr_desk_refines.specs.Memory.Invariant.{is_in_step}
+use Rattle.ckr_desk_refines.specs.Memory.View.{JobsView, RunningStepView}
 use Rattle.ckr_desk_refines.specs.Entries.{HasEntries}
 use Rattle.ckr_desk_turn.specs.declared.failed_run.FailedRun.{FailedRun}
 use Rattle.ckr_points.specs.Events.{AreSound}

@@ -21,7 +21,7 @@ use Rattle.ckr_desk_turn.specs.declared.plan.Plan.TheVariants.{Pass, Take}
 use Rattle.ckr_desk_turn.specs.Desk.{DeskModel, TurnDone, progress_of, start_of}
 use Rattle.ckr_desk_turn.specs.Taken.{taken_of}
 use Rattle.ckr_points.specs.Rows.{run_of}
-use Rattle.ckr_desk_memory.specs.View.{jobs_of}
+use Rattle.ckr_desk_refines.specs.Memory.View.{jobs_of}
 use Rattle.ckr_desk.proofs.Turns.Events.{turned}
 
 -- the answer to a question on a restart is that of the operator in office

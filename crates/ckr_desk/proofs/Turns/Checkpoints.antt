@@ -1,7 +1,7 @@
 -- A turn that passes a checkpoint, for which no entry is written, from the desk as it stood.
 use Rattle.std.proofs.Common.{◌≡◌, ℕ, false, List, refl, ap, sym, ◌∙◌, Ok}
 use Rattle.ckr_console.specs.declared.question.Answer.{Answer}
-use Rattle.ckr_desk_memory.specs.View.{JobsView}
+use Rattle.ckr_desk_refines.specs.Memory.View.{JobsView}
 use Rattle.ckr_outside.specs.Disk.{EachSince}
 use Rattle.ckr_desk_refines.proofs.Units.Checkpoints.{passed-stands}
 use Rattle.ckr_desk_refines.specs.Unit.{HasPassed}

@@ -3,9 +3,9 @@ use Rattle.std.proofs.Common.{◌≡◌, ℕ, Bool, true, false, if◌then◌els
 use Rattle.std.proofs.lemmas.Bool.{true≢false}
 use Rattle.ckr_console.specs.declared.question.Answer.{Answer}
 use Rattle.ckr_console.specs.declared.question.Answer.TheVariants.{Yes, No, Hold, Silent}
-use Rattle.ckr_desk_memory.specs.OwnSteps.{PlanCommits, PlanFollows, PlanIsOf, PlanLeaves}
-use Rattle.ckr_desk_memory.specs.Plans.{IsUnitPlan}
-use Rattle.ckr_desk_memory.specs.View.{RunningStepView}
+use Rattle.ckr_desk_refines.specs.Memory.OwnSteps.{PlanCommits, PlanFollows, PlanIsOf, PlanLeaves}
+use Rattle.ckr_desk_refines.specs.Memory.Plans.{IsUnitPlan}
+use Rattle.ckr_desk_refines.specs.Memory.View.{RunningStepView}
 use Rattle.ckr_points.specs.Rows.{TablesModel}
 use Rattle.ckr_desk_turn.specs.declared.failed_run.FailedRun.{FailedRun}
 use Rattle.ckr_desk_turn.specs.declared.inquiry.Inquiry.{Inquiry}

@@ -10,13 +10,13 @@ use Rattle.ckr_console.specs.declared.question.Answer.{Answer}
 use Rattle.ckr_events.specs.declared.event.Event.{Event}
 use Rattle.ckr_events.specs.declared.event.Event.TheVariants.{Ended, Selected}
 use Rattle.ckr_events.specs.declared.event.Ending.TheVariants.{Allocation}
-use Rattle.ckr_desk_memory.specs.MountMemory.{IsPreparedToTell, none_prepared}
-use Rattle.ckr_desk_memory.specs.Preparation.{IsPrepared}
-use Rattle.ckr_desk_memory.specs.Model.Cause.TheVariants.{MountRefused}
-use Rattle.ckr_desk_memory.specs.Model.RewriteCounts.{may_count}
-use Rattle.ckr_desk_memory.specs.OwnSteps.{KnowsItsPoint}
-use Rattle.ckr_desk_memory.specs.View.{JobsView, PointView}
-use Rattle.ckr_desk_memory.specs.declared.preparation.Prepared.{Prepared}
+use Rattle.ckr_desk_refines.specs.Memory.MountMemory.{IsPreparedToTell, none_prepared}
+use Rattle.ckr_desk_refines.specs.Memory.Preparation.{IsPrepared}
+use Rattle.ckr_desk_refines.specs.Memory.Cause.TheVariants.{MountRefused}
+use Rattle.ckr_desk_refines.specs.Memory.RewriteCounts.{may_count}
+use Rattle.ckr_desk_refines.specs.Memory.OwnSteps.{KnowsItsPoint}
+use Rattle.ckr_desk_refines.specs.Memory.View.{JobsView, PointView}
+use Rattle.ckr_desk_refines.specs.Memory.Prepared.{Prepared}
 use Rattle.ckr_points.specs.Rows.{TablesModel}
 use Rattle.ckr_desk_refines.specs.Moves.{KnowsItsEntry, event_in}
 use Rattle.ckr_desk_store.specs.State.{StoreView}

@@ -4,8 +4,8 @@ use Rattle.std.proofs.lemmas.Bool.{true≢false}
 use Rattle.ckr_base.specs.declared.code.Code.{Code}
 use Rattle.ckr_console.specs.declared.question.Answer.{Answer}
 use Rattle.ckr_events.specs.declared.event.Event.{Event}
-use Rattle.ckr_desk_memory.specs.Plans.{IsSpelledPlan, NeedsRoom}
-use Rattle.ckr_desk_memory.specs.View.{PointView, jobs_of}
+use Rattle.ckr_desk_refines.specs.Memory.Plans.{IsSpelledPlan, NeedsRoom}
+use Rattle.ckr_desk_refines.specs.Memory.View.{PointView, jobs_of}
 use Rattle.ckr_desk_turn.specs.Turns.{IsMountedTurnOf, MountedTurn, plan_for, turn_of}
 use Rattle.ckr_outside.specs.Disk.{EachSince}
 use Rattle.ckr_outside.specs.Moments.{in_other_words}

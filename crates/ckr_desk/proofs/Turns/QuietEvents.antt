@@ -1,7 +1,7 @@
 -- What a turn tells, but for a unit or a checkpoint of a running step, rewrites no record, submits no deck and takes no checkpoint.
 use Rattle.std.proofs.Common.{◌≡◌, ℕ, Bool, true, false, cond, List, refl, Option, Some, None, Result, Ok, Err}
 use Rattle.std.specs.Option.{option_map_or}
-use Rattle.ckr_desk_memory.specs.Model.Refusal.{Refusal}
+use Rattle.ckr_desk_refines.specs.Memory.Refusal.{Refusal}
 use Rattle.ckr_base.specs.declared.code.Code.{Code}
 use Rattle.ckr_console.specs.declared.question.Answer.{Answer}
 use Rattle.ckr_base.specs.declared.programs.NextDue.{NextDue}

@@ -3,9 +3,9 @@ use Rattle.std.proofs.Common.{◌≡◌, ◌∙◌, refl, sym, subst, Option, So
 use Rattle.ckr_book.specs.Book.{room_of}
 use Rattle.ckr_console.specs.declared.question.Answer.{Answer}
 use Rattle.ckr_events.specs.declared.event.Event.{Event}
-use Rattle.ckr_desk_memory.specs.Preparation.{IsPreparedFor}
-use Rattle.ckr_desk_memory.specs.View.{JobsView}
-use Rattle.ckr_desk_memory.specs.declared.preparation.Prepared.{Prepared}
+use Rattle.ckr_desk_refines.specs.Memory.Preparation.{IsPreparedFor}
+use Rattle.ckr_desk_refines.specs.Memory.View.{JobsView}
+use Rattle.ckr_desk_refines.specs.Memory.Prepared.{Prepared}
 use Rattle.ckr_desk_store.specs.State.{StoreView}
 use Rattle.ckr_desk_turn.specs.declared.inquiry.Inquiry.{Inquiry}
 use Rattle.ckr_desk_turn.specs.declared.plan.Plan.{Plan}

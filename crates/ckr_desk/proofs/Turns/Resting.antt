@@ -2,7 +2,7 @@
 use Rattle.std.proofs.Common.{◌≡◌, ◌++◌, ℕ, List, true, ap, sym, ◌∙◌, subst, append-nil, None, Ok}
 use Rattle.ckr_book.specs.Book.{room_of}
 use Rattle.ckr_console.specs.declared.question.Answer.{Answer}
-use Rattle.ckr_desk_memory.specs.View.{JobsView}
+use Rattle.ckr_desk_refines.specs.Memory.View.{JobsView}
 use Rattle.ckr_outside.specs.Disk.{EachSince}
 use Rattle.ckr_outside.specs.Moments.{in_other_words}
 use Rattle.ckr_points.specs.Office.{Office}

@@ -10,8 +10,8 @@ use Rattle.ckr_console.specs.declared.question.Answer.TheVariants.{Yes, No, Hold
 use Rattle.ckr_events.specs.declared.event.Ending.TheVariants.{Coded}
 use Rattle.ckr_events.specs.declared.event.Event.{Event}
 use Rattle.ckr_events.specs.declared.event.Event.TheVariants.{Ended, Held, Restarted}
-use Rattle.ckr_desk_memory.specs.Plans.{told_by}
-use Rattle.ckr_desk_memory.specs.View.{JobsView, RunningStepView, running_of}
+use Rattle.ckr_desk_refines.specs.Memory.Plans.{told_by}
+use Rattle.ckr_desk_refines.specs.Memory.View.{JobsView, RunningStepView, running_of}
 use Rattle.ckr_library.specs.NameMaps.{Name}
 use Rattle.ckr_points.specs.Office.{Office}
 use Rattle.ckr_points.specs.Rows.{RunRow}

@@ -8,7 +8,7 @@ use Rattle.ckr_base.specs.declared.programs.UnitDone.{UnitDone}
 use Rattle.ckr_entry.specs.declared.point.State.{State}
 use Rattle.ckr_entry.specs.declared.point.State.TheVariants.{Plain, Matched}
 use Rattle.ckr_jcl.specs.declared.deck.Parm.{Parm}
-use Rattle.ckr_desk_memory.specs.Plans.{IsWorkedCode}
+use Rattle.ckr_desk_refines.specs.Memory.Plans.{IsWorkedCode}
 use Rattle.ckr_library.specs.Catalog.{Catalog}
 use Rattle.ckr_match.specs.declared.state.MatchState.{MatchState}
 use Rattle.ckr_match.specs.Steps as matched

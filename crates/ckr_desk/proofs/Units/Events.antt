@@ -9,8 +9,8 @@ use Rattle.ckr_console.specs.declared.question.Answer.{Answer}
 use Rattle.ckr_events.specs.declared.event.Ending.TheVariants.{Coded}
 use Rattle.ckr_events.specs.declared.event.Event.{Event}
 use Rattle.ckr_events.specs.declared.event.Event.TheVariants.{Ended, Held, Restarted}
-use Rattle.ckr_desk_memory.specs.View.{JobsView, RunningStepView}
-use Rattle.ckr_desk_memory.specs.Rewrite.{updated_by, updated_in}
+use Rattle.ckr_desk_refines.specs.Memory.View.{JobsView, RunningStepView}
+use Rattle.ckr_desk_refines.specs.Memory.Rewrite.{updated_by, updated_in}
 use Rattle.ckr_desk_turn.proofs.Units.AnyUnit.{work-keeps}
 use Rattle.ckr_desk_turn.specs.NextEvents.{Comes, EventComes}
 use Rattle.ckr_desk_turn.specs.Invariant.{IsDesk}
@@ -32,7 +32,7 @@ use Rattle.ckr_desk_refines.proofs.Rewrites.Office.{IsThere, IsTheirs, lengths_n
 use Rattle.ckr_desk_refines.proofs.Rewrites.OwnStep.{goes-in-place, same-job, updated-among, updated-plain, updated-shown}
 use Rattle.ckr_desk_refines.proofs.Rewrites.Unit.{one-more}
 use Rattle.ckr_desk_refines.proofs.Rewrites.Desk.{stands-then}
-use Rattle.ckr_desk_memory.proofs.Masters.{by-role}
+use Rattle.ckr_desk_refines.proofs.Memory.Masters.{by-role}
 use Rattle.ckr_desk_refines.specs.Rewrite.{AsksToRewrite}
 use Rattle.ckr_points_invariant.proofs.Stamps.Tables.{alike_set}
 use Rattle.ckr_points_invariant.proofs.Steps.Commits.{alike_within, formed_step, in_reach}

@@ -6,9 +6,9 @@ use Rattle.ckr_console.specs.declared.question.Answer.{Answer}
 use Rattle.ckr_events.specs.declared.event.Event.{Event}
 use Rattle.ckr_events.specs.declared.event.Event.TheVariants.{Ended, Held, Restarted, Rewritten}
 use Rattle.ckr_events.specs.Event.{spelling}
-use Rattle.ckr_desk_memory.specs.Plans.{behind_unit, told_by}
-use Rattle.ckr_desk_memory.specs.Preparation.{needs_room}
-use Rattle.ckr_desk_memory.specs.View.{RunningStepView, jobs_of, running_of}
+use Rattle.ckr_desk_refines.specs.Memory.Plans.{behind_unit, told_by}
+use Rattle.ckr_desk_refines.specs.Memory.Preparation.{needs_room}
+use Rattle.ckr_desk_refines.specs.Memory.View.{RunningStepView, jobs_of, running_of}
 use Rattle.ckr_meaning.specs.EffectiveJob.{OwnedStep}
 use Rattle.ckr_points.specs.Office.{Office}
 use Rattle.ckr_points.specs.Restart.{place_of, step_in}

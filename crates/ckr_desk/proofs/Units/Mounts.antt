@@ -5,10 +5,10 @@ use Rattle.ckr_base.proofs.Numbers.{equal-true}
 use Rattle.ckr_base.proofs.Sequences.{find-passes}
 use Rattle.ckr_console.specs.declared.question.Answer.{Answer}
 use Rattle.ckr_events.specs.declared.event.Event.{Event}
-use Rattle.ckr_desk_memory.specs.EventChanges.{is_of_run}
-use Rattle.ckr_desk_memory.specs.OwnSteps.{PlanCommits, PlanFollows, PlanIsOf}
-use Rattle.ckr_desk_memory.specs.Plans.{IsSpelledPlan, IsUnitPlan, IsWent, behind_unit, told_by}
-use Rattle.ckr_desk_memory.specs.View.{RunningStepView, running_of}
+use Rattle.ckr_desk_refines.specs.Memory.EventChanges.{is_of_run}
+use Rattle.ckr_desk_refines.specs.Memory.OwnSteps.{PlanCommits, PlanFollows, PlanIsOf}
+use Rattle.ckr_desk_refines.specs.Memory.Plans.{IsSpelledPlan, IsUnitPlan, IsWent, behind_unit, told_by}
+use Rattle.ckr_desk_refines.specs.Memory.View.{RunningStepView, running_of}
 use Rattle.ckr_meaning.specs.EffectiveJob.{OwnedStep}
 use Rattle.ckr_points.specs.Restart.{place_of, step_in}
 use Rattle.ckr_points.specs.Rows.{RunRow, TablesModel, run_of, step_of_run}

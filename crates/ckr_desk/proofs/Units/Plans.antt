@@ -7,7 +7,7 @@ use Rattle.ckr_base.specs.declared.code.Code.{Code}
 use Rattle.ckr_console.specs.declared.question.Answer.{Answer}
 use Rattle.ckr_console.specs.declared.question.Answer.TheVariants.{Yes, No, Hold, Silent}
 use Rattle.ckr_events.specs.declared.event.Event.{Event}
-use Rattle.ckr_desk_memory.specs.Plans.{IsSpelledPlan}
+use Rattle.ckr_desk_refines.specs.Memory.Plans.{IsSpelledPlan}
 use Rattle.ckr_library.specs.NameMaps.{Name}
 use Rattle.ckr_points.specs.Office.{Office}
 use Rattle.ckr_points.specs.Rows.{RunRow, run_of}

@@ -10,9 +10,9 @@ use Rattle.ckr_console.specs.declared.question.Answer.{Answer}
 use Rattle.ckr_console.specs.declared.question.Answer.TheVariants.{Yes}
 use Rattle.ckr_events.specs.declared.event.Event.{Event}
 use Rattle.ckr_events.specs.declared.event.Event.TheVariants.{Ended, Held, Restarted, Rewritten}
-use Rattle.ckr_desk_memory.specs.EventChanges.{is_of_run}
-use Rattle.ckr_desk_memory.specs.Plans.{IsWent, behind_unit, told_by}
-use Rattle.ckr_desk_memory.specs.View.{RunningStepView, jobs_of, running_of}
+use Rattle.ckr_desk_refines.specs.Memory.EventChanges.{is_of_run}
+use Rattle.ckr_desk_refines.specs.Memory.Plans.{IsWent, behind_unit, told_by}
+use Rattle.ckr_desk_refines.specs.Memory.View.{RunningStepView, jobs_of, running_of}
 use Rattle.ckr_meaning.specs.EffectiveJob.{OwnedStep}
 use Rattle.ckr_points.specs.Office.{Office}
 use Rattle.ckr_points.specs.Rows.{KeptEntry, RunRow, TablesModel, run_of}

@@ -5,14 +5,14 @@ use Rattle.std.proofs.lemmas.Bool.{false≢true, true≢false}
 use Rattle.ckr_book.specs.Book.{room_of}
 use Rattle.ckr_events.specs.declared.event.Event.{Event}
 use Rattle.ckr_events.specs.declared.event.Event.TheVariants.{Ended, Held, Restarted, Rewritten, Selected}
-use Rattle.ckr_desk_memory.specs.Model.RewriteCounts.{may_count}
-use Rattle.ckr_desk_memory.specs.declared.preparation.Prepared.{Prepared}
-use Rattle.ckr_desk_memory.specs.EventChanges.{is_point_of}
-use Rattle.ckr_desk_memory.proofs.Holders.OwnUnits.{others-commit}
-use Rattle.ckr_desk_memory.specs.OwnSteps.{IsOfOther, KnowsItsPoint, PlanCommits, PlanIsOf}
-use Rattle.ckr_desk_memory.specs.Plans.{IsUnitPlan, is_unit_event}
-use Rattle.ckr_desk_memory.specs.Preparation.{HasAgain, IsPrepared}
-use Rattle.ckr_desk_memory.specs.View.{PointView, RunningStepView}
+use Rattle.ckr_desk_refines.specs.Memory.RewriteCounts.{may_count}
+use Rattle.ckr_desk_refines.specs.Memory.Prepared.{Prepared}
+use Rattle.ckr_desk_refines.specs.Memory.EventChanges.{is_point_of}
+use Rattle.ckr_desk_refines.proofs.Memory.OwnUnits.{others-commit}
+use Rattle.ckr_desk_refines.specs.Memory.OwnSteps.{IsOfOther, KnowsItsPoint, PlanCommits, PlanIsOf}
+use Rattle.ckr_desk_refines.specs.Memory.Plans.{IsUnitPlan, is_unit_event}
+use Rattle.ckr_desk_refines.specs.Memory.Preparation.{HasAgain, IsPrepared}
+use Rattle.ckr_desk_refines.specs.Memory.View.{PointView, RunningStepView}
 use Rattle.ckr_points.specs.Rows.{TablesModel}
 use Rattle.ckr_points_tables.specs.Invariant.{HasRoom}
 use Rattle.ckr_points_tables.specs.View.{RoomyTables}

@@ -2,8 +2,8 @@
 use Rattle.std.proofs.Common.{◌≡◌, ◌++◌, ℕ, Bool, List, true, refl, ap, sym, ◌∙◌, subst, Option, Some, None}
 use Rattle.ckr_console.specs.declared.question.Answer.{Answer}
 use Rattle.ckr_events.specs.declared.event.Event.{Event}
-use Rattle.ckr_desk_memory.specs.Plans.{IsSpelledPlan}
-use Rattle.ckr_desk_memory.specs.View.{jobs_of}
+use Rattle.ckr_desk_refines.specs.Memory.Plans.{IsSpelledPlan}
+use Rattle.ckr_desk_refines.specs.Memory.View.{jobs_of}
 use Rattle.ckr_outside.specs.Disk.{EachSince}
 use Rattle.ckr_outside.specs.Moments.{and_then, in_other_words}
 use Rattle.ckr_desk_refines.specs.Moves.{event_in, reply_in}

@@ -4,8 +4,8 @@ use Rattle.ckr_book.specs.Book.{IsBeforeOrAfter, ends_closed}
 use Rattle.ckr_console.specs.declared.question.Answer.{Answer}
 use Rattle.ckr_events.specs.declared.event.Event.{Event}
 use Rattle.ckr_events.specs.Event.{spelling}
-use Rattle.ckr_desk_memory.specs.Plans.{IsSpelledPlan}
-use Rattle.ckr_desk_memory.specs.View.{jobs_of}
+use Rattle.ckr_desk_refines.specs.Memory.Plans.{IsSpelledPlan}
+use Rattle.ckr_desk_refines.specs.Memory.View.{jobs_of}
 use Rattle.ckr_desk_refines.specs.Commits.{HasCommitted}
 use Rattle.ckr_desk_refines.specs.Entries.{HasEntries}
 use Rattle.ckr_outside.specs.Disk.{part}

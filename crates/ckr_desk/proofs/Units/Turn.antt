@@ -7,13 +7,13 @@ use Rattle.ckr_base.specs.declared.code.Code.{Code}
 use Rattle.ckr_console.specs.declared.question.Answer.{Answer}
 use Rattle.ckr_events.specs.declared.event.Event.{Event}
 use Rattle.ckr_events.specs.Event.{spelling}
-use Rattle.ckr_desk_memory.specs.Model.RewriteCounts.{may_count}
+use Rattle.ckr_desk_refines.specs.Memory.RewriteCounts.{may_count}
 use Rattle.ckr_jcl.specs.declared.deck.Job.{Job}
-use Rattle.ckr_desk_memory.specs.EventChanges.{is_of_run}
-use Rattle.ckr_desk_memory.specs.Plans.{IsSpelledPlan, told_by}
-use Rattle.ckr_desk_memory.specs.Replay.{deck_of, goes_on, has_few_digits}
+use Rattle.ckr_desk_refines.specs.Memory.EventChanges.{is_of_run}
+use Rattle.ckr_desk_refines.specs.Memory.Plans.{IsSpelledPlan, told_by}
+use Rattle.ckr_desk_refines.specs.Memory.Replay.{deck_of, goes_on, has_few_digits}
 use Rattle.ckr_desk.proofs.Turns.Events.{small-digits}
-use Rattle.ckr_desk_memory.specs.View.{RunningStepView, jobs_of, running_of}
+use Rattle.ckr_desk_refines.specs.Memory.View.{RunningStepView, jobs_of, running_of}
 use Rattle.ckr_desk_refines.proofs.Entries.Images.{keeping-kept}
 use Rattle.ckr_desk_refines.specs.Entries.{HasEntries, OnlyCheckSetsKeep, SameKept}
 use Rattle.ckr_meaning.specs.EffectiveJob.{OwnedStep, names_of}

@@ -1,6 +1,6 @@
 use Rattle.std.proofs.Common.{◌≡◌, ◌∙◌, None, List, ℕ, ap, refl, subst, sym}
 use Rattle.ckr_base.proofs.Results.{err-holds}
-use Rattle.ckr_desk_memory.specs.OwnSteps.{HavePoints}
+use Rattle.ckr_desk_refines.specs.Memory.OwnSteps.{HavePoints}
 use Rattle.ckr_outside.specs.Faults.{Rose}
 use Rattle.ckr_points_tables.specs.View.{RoomyTables}
 use Rattle.ckr_desk.proofs.Layouts.{jobs-stay, kept-opened}

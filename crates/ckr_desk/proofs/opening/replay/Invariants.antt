@@ -1,7 +1,7 @@
 use Rattle.std.proofs.Common.{◌≡◌, ◌≤◌, ◌-◌, []}
 use Rattle.ckr_outside.specs.Disk.{OnlyReads, part}
-use Rattle.ckr_desk_memory.specs.Holders.{AreHolders}
-use Rattle.ckr_desk_memory.specs.Invariant.{AreJobs}
+use Rattle.ckr_desk_refines.specs.Memory.Holders.{AreHolders}
+use Rattle.ckr_desk_refines.specs.Memory.Invariant.{AreJobs}
 use Rattle.ckr_desk_turn.specs.Queue.{AreNumbered}
 use Rattle.ckr_desk.specs.Replay.{IsLastTo, IsReplayed}
 use Rattle.ckr_desk.proofs.opening.replay.Given as goal

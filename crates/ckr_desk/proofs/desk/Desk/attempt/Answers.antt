@@ -1,8 +1,8 @@
 use Rattle.std.proofs.Common.{◌∙◌, IfErr, IfSome, Option, arith, ap, subst, sym, None}
 use Rattle.std.specs.Option.{is_some}
-use Rattle.ckr_desk_memory.specs.declared.checkpoint.Checkpoint.{Checkpoint}
-use Rattle.ckr_desk_memory.specs.Checkpoints.{IsCheckpointOf}
-use Rattle.ckr_desk_memory.specs.Parts.{step_seen}
+use Rattle.ckr_desk_refines.specs.Memory.Checkpoint.{Checkpoint}
+use Rattle.ckr_desk_refines.specs.Memory.Checkpoints.{IsCheckpointOf}
+use Rattle.ckr_desk_refines.specs.Memory.Parts.{step_seen}
 use Rattle.ckr_events.specs.declared.event.Event.{Event}
 use Rattle.ckr_points_tables.specs.Invariant.{MaySubmit}
 use Rattle.ckr_points.specs.declared.reply.Chkpt.TheVariants.{Done}

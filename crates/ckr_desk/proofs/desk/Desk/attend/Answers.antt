@@ -3,7 +3,7 @@ use Rattle.std.proofs.lemmas.Bool.{true≢false}
 use Rattle.std.specs.Option.{is_some}
 use Rattle.ckr_base.proofs.Options.{option-cases}
 use Rattle.ckr_console.specs.Answering.{restart_answer}
-use Rattle.ckr_desk_memory.specs.OwnSteps.{PlanCommits}
+use Rattle.ckr_desk_refines.specs.Memory.OwnSteps.{PlanCommits}
 use Rattle.ckr_desk_turn.specs.Mounts.{plan_by, volumes_of, wanting}
 use Rattle.ckr_desk_turn.specs.Turns.{MountedTurn}
 use Rattle.ckr_desk_turn.specs.declared.taking.Taking.{Taking}

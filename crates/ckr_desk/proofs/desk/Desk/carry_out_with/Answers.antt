@@ -1,7 +1,7 @@
 use Rattle.std.proofs.Common.{◌≡◌, ◌≤◌, ◌∙◌, arith, ap, subst, sym, List, None, IfErr, IfOk, OnOk}
-use Rattle.ckr_desk_memory.specs.Plans.{IsToldReply}
-use Rattle.ckr_desk_memory.specs.OwnSteps.{PlanCommits, PlanFollows, PlanLeaves}
-use Rattle.ckr_desk_memory.specs.View.{PointView, RunningStepView, jobs_of}
+use Rattle.ckr_desk_refines.specs.Memory.Plans.{IsToldReply}
+use Rattle.ckr_desk_refines.specs.Memory.OwnSteps.{PlanCommits, PlanFollows, PlanLeaves}
+use Rattle.ckr_desk_refines.specs.Memory.View.{PointView, RunningStepView, jobs_of}
 use Rattle.ckr_points.specs.Rows.{TablesModel}
 use Rattle.ckr_volumes.specs.declared.layout.Layout.{Layout}
 use Rattle.ckr_console.specs.Answering.{restart_answer}

@@ -1,6 +1,6 @@
 use Rattle.std.proofs.Common.{◌≡◌, ◌≤◌, ◌∙◌, arith, ap, subst, sym, None, IfErr, IfOk, OnOk}
 use Rattle.ckr_book.specs.Book.{room_of}
-use Rattle.ckr_desk_memory.specs.Plans.{IsToldReply}
+use Rattle.ckr_desk_refines.specs.Memory.Plans.{IsToldReply}
 use Rattle.ckr_desk_store.specs.State.{IsSound, StoreView}
 use Rattle.ckr_desk_turn.specs.declared.plan.Plan.TheVariants.{Take}
 use Rattle.ckr_desk.proofs.Calls.FullBooks.{of-disk-numbers}

@@ -3,13 +3,13 @@ use Rattle.std.specs.List.{AllByRecursion}
 use Rattle.std.specs.Option.{option_map}
 use Rattle.ckr_base.proofs.Numbers.{equal-true}
 use Rattle.ckr_base.proofs.Sequences.{find-passes}
-use Rattle.ckr_desk_memory.proofs.Holders.Units.{running-unit}
-use Rattle.ckr_desk_memory.specs.EventChanges.{is_of_run}
-use Rattle.ckr_desk_memory.specs.OwnSets.{IsRunningOf}
-use Rattle.ckr_desk_memory.specs.OwnSteps.{IsOfOther, PlanCommits, PlanIsOf}
-use Rattle.ckr_desk_memory.specs.Parts.{step_seen}
-use Rattle.ckr_desk_memory.specs.Plans.{behind_unit}
-use Rattle.ckr_desk_memory.specs.View.{RunningStepView}
+use Rattle.ckr_desk_refines.proofs.Memory.Units.{running-unit}
+use Rattle.ckr_desk_refines.specs.Memory.EventChanges.{is_of_run}
+use Rattle.ckr_desk_refines.specs.Memory.OwnSets.{IsRunningOf}
+use Rattle.ckr_desk_refines.specs.Memory.OwnSteps.{IsOfOther, PlanCommits, PlanIsOf}
+use Rattle.ckr_desk_refines.specs.Memory.Parts.{step_seen}
+use Rattle.ckr_desk_refines.specs.Memory.Plans.{behind_unit}
+use Rattle.ckr_desk_refines.specs.Memory.View.{RunningStepView}
 use Rattle.ckr_outside.specs.Moments.{both_since, in_other_words}
 use Rattle.ckr_steps.specs.StepUnit.{HasWorkedOut}
 use Rattle.ckr_steps.specs.Writes.{StemsKeeping}

@@ -4,11 +4,11 @@ use Rattle.std.specs.Rc.{rc_value}
 use Rattle.std.proofs.lemmas.Bool.{and_from}
 use Rattle.ckr_book.specs.Book.{IsBeforeOrAfter, room_of}
 use Rattle.ckr_events.specs.Event.{spelling}
-use Rattle.ckr_desk_memory.proofs.RunNumbers.{numbered-behind}
-use Rattle.ckr_desk_memory.proofs.RewriteCounts.{counted-may}
-use Rattle.ckr_desk_memory.specs.Model.RewriteCounts.{may_count}
-use Rattle.ckr_desk_memory.specs.OwnSets.{CommitsItsOwn}
-use Rattle.ckr_desk_memory.specs.OwnSteps.{KnowsItsPoint, LeavesLeft}
+use Rattle.ckr_desk_refines.proofs.Memory.RunNumbers.{numbered-behind}
+use Rattle.ckr_desk_refines.proofs.Memory.RewriteCounts.{counted-may}
+use Rattle.ckr_desk_refines.specs.Memory.RewriteCounts.{may_count}
+use Rattle.ckr_desk_refines.specs.Memory.OwnSets.{CommitsItsOwn}
+use Rattle.ckr_desk_refines.specs.Memory.OwnSteps.{KnowsItsPoint, LeavesLeft}
 use Rattle.ckr_desk_turn.specs.Queue.{AreNumbered}
 use Rattle.ckr_outside.specs.Disk.{EachSince, SameOutside}
 use Rattle.ckr_points.specs.Rows.{TablesModel}

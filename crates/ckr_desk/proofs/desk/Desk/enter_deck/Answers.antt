@@ -1,8 +1,8 @@
 use Rattle.std.proofs.Common.{◌≡◌, sym, subst, true, arith, Some}
-use Rattle.ckr_desk_memory.proofs.AcceptedDecks.{accepted-submits}
-use Rattle.ckr_desk_memory.specs.Invariant.{IsAnyAccepted}
-use Rattle.ckr_desk_memory.specs.OwnSets.{CommitsItsOwn}
-use Rattle.ckr_desk_memory.specs.OwnSteps.{LeavesLeft}
+use Rattle.ckr_desk_refines.proofs.Memory.AcceptedDecks.{accepted-submits}
+use Rattle.ckr_desk_refines.specs.Memory.Invariant.{IsAnyAccepted}
+use Rattle.ckr_desk_refines.specs.Memory.OwnSets.{CommitsItsOwn}
+use Rattle.ckr_desk_refines.specs.Memory.OwnSteps.{LeavesLeft}
 use Rattle.ckr_events.specs.declared.event.Event.TheVariants.{Submitted}
 use Rattle.ckr_points_tables.specs.Invariant.{MaySubmit}
 use Rattle.ckr_desk_store.specs.State.{IsSound}

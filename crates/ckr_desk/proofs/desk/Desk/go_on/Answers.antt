@@ -1,5 +1,5 @@
 use Rattle.std.proofs.Common.{subst}
-use Rattle.ckr_desk_memory.specs.OwnSteps.{PlanCommits, PlanFollows, PlanLeaves}
+use Rattle.ckr_desk_refines.specs.Memory.OwnSteps.{PlanCommits, PlanFollows, PlanLeaves}
 use Rattle.ckr_desk.proofs.Layouts.{kept-waiting}
 use Rattle.ckr_desk.proofs.Turns.Stops.{rewritten-left, told-left}
 use Rattle.ckr_desk.proofs.desk.Desk.go_on.Goals as goal

@@ -2,10 +2,10 @@ use Rattle.std.proofs.Common.{◌≡◌, ◌≢◌, ◌∙◌, ℕ, Option, Some
 use Rattle.std.proofs.lemmas.Bool.{false≢true}
 use Rattle.std.specs.Option.{option_map_or}
 use Rattle.ckr_console.specs.declared.question.Answer.TheVariants.{Silent}
-use Rattle.ckr_desk_memory.specs.EventChanges.{is_point_of}
-use Rattle.ckr_desk_memory.specs.Invariant.{AreJobs}
-use Rattle.ckr_desk_memory.specs.OwnSteps.{AreLeft, HoldTheirOwn, PlanFollows}
-use Rattle.ckr_desk_memory.specs.View.{JobsView, PointView}
+use Rattle.ckr_desk_refines.specs.Memory.EventChanges.{is_point_of}
+use Rattle.ckr_desk_refines.specs.Memory.Invariant.{AreJobs}
+use Rattle.ckr_desk_refines.specs.Memory.OwnSteps.{AreLeft, HoldTheirOwn, PlanFollows}
+use Rattle.ckr_desk_refines.specs.Memory.View.{JobsView, PointView}
 use Rattle.ckr_desk_store.specs.State.{StoreView}
 use Rattle.ckr_desk_turn.specs.Queue.{AreNumbered}
 use Rattle.ckr_desk_turn.specs.Turns.{MountedTurn}

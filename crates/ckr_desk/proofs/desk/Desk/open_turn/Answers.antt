@@ -1,8 +1,8 @@
 use Rattle.std.proofs.Common.{◌≡◌, ◌∙◌, find, true, ap, refl, subst, sym}
 use Rattle.std.specs.Option.{is_some}
-use Rattle.ckr_desk_memory.specs.EventChanges.{is_point_of}
-use Rattle.ckr_desk_memory.specs.Plans.{HasDue, NeedsRoom}
-use Rattle.ckr_desk_memory.specs.View.{jobs_of}
+use Rattle.ckr_desk_refines.specs.Memory.EventChanges.{is_point_of}
+use Rattle.ckr_desk_refines.specs.Memory.Plans.{HasDue, NeedsRoom}
+use Rattle.ckr_desk_refines.specs.Memory.View.{jobs_of}
 use Rattle.ckr_desk_turn.proofs.Mounts.{taken-stays}
 use Rattle.ckr_desk_turn.specs.Plans.{plan_of}
 use Rattle.ckr_desk_turn.specs.Turns.{IsMountedTurnOf}

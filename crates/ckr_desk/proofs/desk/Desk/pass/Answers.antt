@@ -2,7 +2,7 @@ use Rattle.std.proofs.Common.{ap}
 use Rattle.ckr_points_tables.specs.View.{RoomyTables}
 use Rattle.ckr_desk.proofs.Layouts.{kept-moved}
 use Rattle.ckr_desk.proofs.desk.Desk.pass.Goals as goal
-use Rattle.ckr_desk_memory.proofs.RunningSteps.Served.{counted-all}
+use Rattle.ckr_desk_refines.proofs.Memory.Served.{counted-all}
 
 pub pass-requires : goal.pass-requires
 pass-requires g c = record { counted = counted-all c.self.inside.store.layout c.self.inside.jobs.running c.self.invariant.jobs.are.running }

@@ -1,5 +1,5 @@
 use Rattle.std.proofs.Common.{ap, sym, subst, ◌∙◌}
-use Rattle.ckr_desk_memory.specs.Rewrite.{HasRecordPlace}
+use Rattle.ckr_desk_refines.specs.Memory.Rewrite.{HasRecordPlace}
 use Rattle.ckr_desk.proofs.Images.Rewrite.{differs-so, image-there, lacking-then, lacks-most, place-there, set-some, set-stands, updated-some, writing-left, written-by}
 use Rattle.ckr_desk.specs.State.{DeskView}
 use Rattle.ckr_desk.proofs.desk.Desk.rewrite.Goals as goal

@@ -1,6 +1,6 @@
 use Rattle.std.proofs.Common.{IfErr, sym, subst}
 use Rattle.ckr_console.specs.Answering.{restart_answer}
-use Rattle.ckr_desk_memory.specs.View.{JobsView}
+use Rattle.ckr_desk_refines.specs.Memory.View.{JobsView}
 use Rattle.ckr_desk_turn.specs.declared.plan.Plan.{Plan}
 use Rattle.ckr_desk_turn.specs.Inquiries.{decide}
 use Rattle.ckr_desk_refines.specs.Moves.{event_in}

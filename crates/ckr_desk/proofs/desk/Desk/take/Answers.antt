@@ -1,12 +1,12 @@
 use Rattle.std.proofs.Common.{◌≡◌, ◌≤◌, ◌∙◌, ap, sym, subst, None}
 use Rattle.ckr_book.specs.Book.{room_of}
-use Rattle.ckr_desk_memory.specs.Model.RewriteCounts.{may_count}
-use Rattle.ckr_desk_memory.specs.Invariant.{IsAnyAccepted}
-use Rattle.ckr_desk_memory.specs.OwnSets.{CommitsItsOwn}
-use Rattle.ckr_desk_memory.specs.OwnSteps.{KnowsItsPoint, LeavesLeft}
-use Rattle.ckr_desk_memory.specs.Plans.{IsToldReply}
-use Rattle.ckr_desk_memory.specs.Preparation.{IsPrepared}
-use Rattle.ckr_desk_memory.specs.View.{JobsView}
+use Rattle.ckr_desk_refines.specs.Memory.RewriteCounts.{may_count}
+use Rattle.ckr_desk_refines.specs.Memory.Invariant.{IsAnyAccepted}
+use Rattle.ckr_desk_refines.specs.Memory.OwnSets.{CommitsItsOwn}
+use Rattle.ckr_desk_refines.specs.Memory.OwnSteps.{KnowsItsPoint, LeavesLeft}
+use Rattle.ckr_desk_refines.specs.Memory.Plans.{IsToldReply}
+use Rattle.ckr_desk_refines.specs.Memory.Preparation.{IsPrepared}
+use Rattle.ckr_desk_refines.specs.Memory.View.{JobsView}
 use Rattle.ckr_events.specs.declared.event.Event.{Event}
 use Rattle.ckr_points.specs.Follows.{follows}
 use Rattle.ckr_points_tables.specs.Invariant.{MaySubmit}

@@ -4,10 +4,10 @@ use Rattle.ckr_points.specs.Follows.{follows}
 use Rattle.ckr_points.specs.Rows.{TablesModel}
 use Rattle.ckr_events.specs.Event.{spelling}
 use Rattle.ckr_outside.specs.Disk.{EachSince}
-use Rattle.ckr_desk_memory.specs.Invariant.{IsAnyAccepted}
+use Rattle.ckr_desk_refines.specs.Memory.Invariant.{IsAnyAccepted}
 use Rattle.ckr_points_tables.specs.Invariant.{MaySubmit}
-use Rattle.ckr_desk_memory.specs.OwnSets.{CommitsItsOwn}
-use Rattle.ckr_desk_memory.specs.OwnSteps.{LeavesLeft}
+use Rattle.ckr_desk_refines.specs.Memory.OwnSets.{CommitsItsOwn}
+use Rattle.ckr_desk_refines.specs.Memory.OwnSteps.{LeavesLeft}
 use Rattle.ckr_desk_refines.specs.Moves.{HasSameRecords}
 use Rattle.ckr_desk_store.specs.OpenImages.{event_records}
 use Rattle.ckr_desk_store.specs.State.{IsSound, StoreView}

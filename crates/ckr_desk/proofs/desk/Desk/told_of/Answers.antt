@@ -1,9 +1,9 @@
 use Rattle.std.proofs.Common.{◌∙◌, ap, sym, subst}
-use Rattle.ckr_desk_memory.proofs.Holders.Rooms.{stored-fit}
-use Rattle.ckr_desk_memory.specs.OwnSteps.{PlanFollows}
-use Rattle.ckr_desk_memory.specs.Parts.{step_seen}
-use Rattle.ckr_desk_memory.specs.Plans.{behind_unit, told_by}
-use Rattle.ckr_desk_memory.specs.View.{running_of}
+use Rattle.ckr_desk_refines.proofs.Memory.Rooms.{stored-fit}
+use Rattle.ckr_desk_refines.specs.Memory.OwnSteps.{PlanFollows}
+use Rattle.ckr_desk_refines.specs.Memory.Parts.{step_seen}
+use Rattle.ckr_desk_refines.specs.Memory.Plans.{behind_unit, told_by}
+use Rattle.ckr_desk_refines.specs.Memory.View.{running_of}
 use Rattle.ckr_volumes.specs.declared.layout.Layout.{Layout}
 use Rattle.ckr_desk.proofs.Units.Codes.{so-coded}
 use Rattle.ckr_desk.proofs.Units.Mounts.{is-told}

@@ -1,9 +1,9 @@
 use Rattle.std.proofs.Common.{◌≡◌, ◌≤◌, ◌∙◌, length, ap, sym, subst}
 use Rattle.ckr_console.specs.Answering.{restart_answer}
-use Rattle.ckr_desk_memory.specs.MountMemory.{none_prepared}
-use Rattle.ckr_desk_memory.specs.OwnSteps.{PlanCommits, PlanFollows}
-use Rattle.ckr_desk_memory.specs.Plans.{HasDue}
-use Rattle.ckr_desk_memory.specs.declared.preparation.Prepared.{Prepared}
+use Rattle.ckr_desk_refines.specs.Memory.MountMemory.{none_prepared}
+use Rattle.ckr_desk_refines.specs.Memory.OwnSteps.{PlanCommits, PlanFollows}
+use Rattle.ckr_desk_refines.specs.Memory.Plans.{HasDue}
+use Rattle.ckr_desk_refines.specs.Memory.Prepared.{Prepared}
 use Rattle.ckr_desk_store.specs.State.{IsSound}
 use Rattle.ckr_desk_turn.specs.declared.plan.Plan.{Plan}
 use Rattle.ckr_desk_turn.specs.Inquiries.{decide, is_ask}

@@ -1,6 +1,6 @@
 use Rattle.std.proofs.Common.{refl, sym, subst}
 use Rattle.ckr_outside.specs.Moments.{at_the_end}
-use Rattle.ckr_desk_memory.specs.Parts.{step_seen}
+use Rattle.ckr_desk_refines.specs.Memory.Parts.{step_seen}
 use Rattle.ckr_desk_turn.specs.declared.plan.Plan.{Plan}
 use Rattle.ckr_desk_turn.specs.declared.plan.Plan.TheVariants.{Rest}
 use Rattle.ckr_desk.proofs.Units.Results.{done-after, done-fits, done-reply, done-told, done-trusted, unit-cause, unit-keeps, unit-takes}

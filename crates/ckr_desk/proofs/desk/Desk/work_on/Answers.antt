@@ -1,7 +1,7 @@
 use Rattle.std.proofs.Common.{◌≡◌, ◌∙◌, sym, subst, ap, false, OnOk, Result, Err}
 use Rattle.ckr_book.specs.Book.{room_of}
-use Rattle.ckr_desk_memory.specs.OwnSteps.{PlanFollows}
-use Rattle.ckr_desk_memory.proofs.Holders.OwnUnits.{told-leaves}
+use Rattle.ckr_desk_refines.specs.Memory.OwnSteps.{PlanFollows}
+use Rattle.ckr_desk_refines.proofs.Memory.OwnUnits.{told-leaves}
 use Rattle.ckr_outside.specs.Moments.{at_the_end}
 use Rattle.ckr_desk_store.specs.State.{StoreView}
 use Rattle.ckr_points_tables.specs.View.{RoomyTables}

@@ -4,9 +4,9 @@ use Rattle.ckr_base.specs.declared.programs.NextDue.TheVariants.{Unit as OneUnit
 use Rattle.ckr_steps.specs.Units.{due_of}
 use Rattle.ckr_steps.specs.StepUnit.{HasWorkedOut}
 use Rattle.ckr_desk_turn.specs.declared.plan.Plan.TheVariants.{Work}
-use Rattle.ckr_desk_memory.specs.Parts.{step_seen}
-use Rattle.ckr_desk_memory.specs.Plans.{HasDue}
-use Rattle.ckr_desk_memory.specs.View.{RunningStepView}
+use Rattle.ckr_desk_refines.specs.Memory.Parts.{step_seen}
+use Rattle.ckr_desk_refines.specs.Memory.Plans.{HasDue}
+use Rattle.ckr_desk_refines.specs.Memory.View.{RunningStepView}
 use Rattle.ckr_desk_store.specs.State.{StoreView}
 use Rattle.ckr_volumes.specs.declared.layout.Layout.{Layout}
 use Rattle.ckr_desk.specs.State.{DeskView}

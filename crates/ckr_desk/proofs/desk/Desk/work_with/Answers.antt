@@ -1,7 +1,7 @@
 use Rattle.std.proofs.Common.{◌≡◌, ◌≤◌, ◌∙◌, ⊎_elim, false, IfErr, OnOk, ap, sym, subst}
 use Rattle.ckr_book.specs.Book.{room_of}
 use Rattle.ckr_console.specs.Answering.{restart_answer}
-use Rattle.ckr_desk_memory.specs.Plans.{IsWent}
+use Rattle.ckr_desk_refines.specs.Memory.Plans.{IsWent}
 use Rattle.ckr_desk_store.specs.State.{StoreView}
 use Rattle.ckr_desk_turn.specs.declared.plan.Plan.TheVariants.{Work}
 use Rattle.ckr_desk_turn.specs.Inquiries.{decide, is_ask}

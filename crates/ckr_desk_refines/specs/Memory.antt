@@ -1,0 +1,24 @@
+-- The definitions of the jobs in memory that the crate above cites, handed on.
+pub use Rattle.ckr_desk_memory.specs.Checkpoints
+pub use Rattle.ckr_desk_memory.specs.Entries
+pub use Rattle.ckr_desk_memory.specs.EntryModels
+pub use Rattle.ckr_desk_memory.specs.EventChanges
+pub use Rattle.ckr_desk_memory.specs.Extents
+pub use Rattle.ckr_desk_memory.specs.Holders
+pub use Rattle.ckr_desk_memory.specs.Invariant
+pub use Rattle.ckr_desk_memory.specs.Lines
+pub use Rattle.ckr_desk_memory.specs.Model.Cause
+pub use Rattle.ckr_desk_memory.specs.Model.Refusal
+pub use Rattle.ckr_desk_memory.specs.Model.RewriteCounts
+pub use Rattle.ckr_desk_memory.specs.MountMemory
+pub use Rattle.ckr_desk_memory.specs.OwnSets
+pub use Rattle.ckr_desk_memory.specs.OwnSteps
+pub use Rattle.ckr_desk_memory.specs.Parts
+pub use Rattle.ckr_desk_memory.specs.Plans
+pub use Rattle.ckr_desk_memory.specs.Preparation
+pub use Rattle.ckr_desk_memory.specs.Replay
+pub use Rattle.ckr_desk_memory.specs.Rewrite
+pub use Rattle.ckr_desk_memory.specs.RunningSteps
+pub use Rattle.ckr_desk_memory.specs.View
+pub use Rattle.ckr_desk_memory.specs.declared.checkpoint.Checkpoint
+pub use Rattle.ckr_desk_memory.specs.declared.preparation.Prepared
