@@ -33,7 +33,7 @@ use Rattle.ckr_desk_turn.specs.declared.plan.Plan.TheVariants.{Rest, Take, Tell}
 use Rattle.ckr_points.specs.declared.reply.How.TheVariants.{Completed}
 use Rattle.ckr_points.specs.declared.reply.Reply.TheVariants.{Idle, JobEnded, NothingToFail, Started}
 use Rattle.ckr_desk_turn.specs.declared.reply.Turn.{Turn}
-use Rattle.ckr_desk_turn.specs.Allocation.{allocation_of, cause_numbers, holdings, items_in}
+use Rattle.ckr_desk_turn.specs.Allocation.{allocation_of, cause_numbers, items_in}
 use Rattle.ckr_desk_turn.specs.Codes.{CodePlaceModel, code_plan, initiator_of, reached_by}
 use Rattle.ckr_desk_turn.specs.Deferred.{deferred_plan, queued_plan}
 use Rattle.ckr_desk_turn.specs.Invariant.{IsTurnOf, is_off}
@@ -53,6 +53,7 @@ use Rattle.ckr_desk_memory.specs.View.{JobsView, jobs_of}
 use Rattle.ckr_desk_memory.proofs.DeferredRestarts.{deferred-follows}
 use Rattle.ckr_desk_memory.proofs.FoundRuns.{found-run}
 use Rattle.ckr_desk_memory.proofs.Starts.Steps.{row-among}
+use Rattle.ckr_points.specs.Staleness.{held_sets}
 
 -- whether an event commits what a running step has written, or puts it back: a rewrite in place, a checkpoint, the end of the step, its restart, or the
 -- hold of its run or its end by a code
@@ -168,7 +169,7 @@ module _ (layout : Layout) (seen : TurnJobs) (numbered : AreNumbered 1 seen.tabl
             started-follows layout tables row laid.stand at on out owned there (accepted.steps (step_in (place_of row)) owned there) items got)
         by (Err refusal) failed =
             let numbers = cause_numbers refusal.cause in
-            let inside = refused-inside table_ways (standing_of row tables) layout (stamp_of owned (step_in (place_of row))) row.job.root owned (holdings tables.sets) refusal (refused-all _ refusal failed) in
+            let inside = refused-inside table_ways (standing_of row tables) layout (stamp_of owned (step_in (place_of row))) row.job.root owned (held_sets tables.sets) refusal (refused-all _ refusal failed) in
             subst (λ (given : Result (List Made) Refusal). Follows (plan given)) (sym failed)
             (λ not. refused-follows layout tables row owned refusal.dd numbers.0 numbers.1 numbers.2 at on there inside.0 inside.1)
 

@@ -7,7 +7,7 @@ use Rattle.ckr_points.specs.Office.{Office}
 use Rattle.ckr_points.specs.Rows.{RunRow, TableSet, run_of}
 use Rattle.ckr_steps.specs.EntryRecords.{SameRecordsOutside}
 use Rattle.ckr_desk_turn.specs.Checkpoints.{check_set}
-use Rattle.ckr_desk_turn.specs.Desk.{DeskModel, jobs_of, start_of}
+use Rattle.ckr_desk_turn.specs.Desk.{DeskModel, jobs_of}
 use Rattle.ckr_desk_turn.specs.declared.plan.Plan.TheVariants.{Take}
 use Rattle.ckr_desk_turn.specs.Turns.{MountedTurn, plan_for}
 use Rattle.ckr_desk_memory.specs.EventChanges.{is_of_run}
@@ -15,11 +15,12 @@ use Rattle.ckr_desk_memory.specs.View.{JobsView, RunningStepView}
 use Rattle.ckr_volumes.specs.declared.layout.Layout.{Layout}
 use Rattle.ckr_volumes.specs.SamePlaces.{SamePlaces}
 use Rattle.ckr_desk_refines.specs.Standing.{StandsForDesk}
+use Rattle.ckr_points.specs.Payload.{start_in_office}
 
 -- the row of a run, and its step as its job starts it
 pub record IsStepOf (office : Office) (run : ℕ) (row : RunRow) (start : StepStart) : Type 0 where
   pub row_at : run_of office.tables run ≡ Some row
-  pub start_at : start_of office row ≡ Some start
+  pub start_at : start_in_office office row ≡ Some start
 
 -- a turn takes the checkpoint that is due in the running step of a run, which is this one in memory
 pub record IsToTake (layout : Layout) (jobs : JobsView) (image : List ℕ) (desk : DeskModel) (turn : MountedTurn) (run : ℕ) (on : RunningStepView) : Type 0 where

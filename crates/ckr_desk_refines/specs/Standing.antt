@@ -1,7 +1,7 @@
 -- The jobs in memory stand for the desk of the events, and an image of the disk has what those events and the running steps have written.
 use Rattle.std.specs.Prelude.{◌≡◌, ℕ, ◌==◌, Bool, true, false, ◌&&◌, not, List, [], ◌∷◌, filter, find, map, Option, None, Some}
 use Rattle.std.specs.List.{list_any}
-use Rattle.ckr_desk_memory.specs.EventChanges.{is_point_of}
+use Rattle.ckr_desk_memory.specs.EventChanges.{is_point_of, without_run as seen_without}
 use Rattle.ckr_desk_memory.specs.Invariant.{is_in_step}
 use Rattle.ckr_desk_memory.specs.View.{JobsView, PointView, RunningStepView}
 use Rattle.ckr_library.specs.declared.sets.Content.TheVariants.{Checkpoints}
@@ -22,10 +22,11 @@ use Rattle.ckr_points.specs.Rows.{KeptEntry, RunRow, TableSet, run_of}
 use Rattle.ckr_steps.specs.declared.step_run.StepRun.{StepRun}
 use Rattle.ckr_steps.specs.Places.{ShowsWithin, IsStepPlace}
 use Rattle.ckr_steps.specs.Units.{AreServed, is_cancelled, is_checkpointed, is_closed, taken_of}
-use Rattle.ckr_desk_turn.specs.Desk.{DeskModel, DeskStep, start_of}
+use Rattle.ckr_desk_turn.specs.Desk.{DeskModel, DeskStep}
 use Rattle.ckr_desk_turn.specs.Jobs.{effect_entry}
 use Rattle.ckr_desk_turn.specs.Units.{StepProgress, arrived}
 use Rattle.ckr_volumes.specs.declared.layout.Layout.{Layout}
+use Rattle.ckr_points.specs.Payload.{start_in_office}
 
 -- A running step in memory stands where its job comes to, or has stopped with a code, with which its run waits; and the image has what it has
 -- written.
@@ -33,7 +34,7 @@ pub record StandsForStep (layout : Layout) (office : Office) (image : List ℕ) 
   pub row : RunRow
   pub row_at : run_of office.tables step.run ≡ Some row
   pub start : StepStart
-  pub start_at : start_of office row ≡ Some start
+  pub start_at : start_in_office office row ≡ Some start
   pub run : on.run ≡ step.run
   pub code : on.code ≡ step.code
   pub stands : on.code ≡ None → IsStepPlace start step.progress.taken step.progress.closed on.step on.sets
@@ -79,7 +80,7 @@ pub record StandsForPoint (points : List PointView) (run : ℕ) (start : StepSta
 -- so it is with a run, where it is within its step, holds its names and has a checkpoint in effect
 abbrev pub OwnStands : Office → List PointView → ℕ → Type 0
 OwnStands office points run =
-    (row : RunRow) (entry : KeptEntry) (start : StepStart) → run_of office.tables run ≡ Some row → is_in_step row ≡ true → effect_entry office.tables row ≡ Some entry → start_of office row ≡ Some start
+    (row : RunRow) (entry : KeptEntry) (start : StepStart) → run_of office.tables run ≡ Some row → is_in_step row ≡ true → effect_entry office.tables row ≡ Some entry → start_in_office office row ≡ Some start
     → StandsForPoint points run start entry
 
 -- and with each run
@@ -99,9 +100,6 @@ pub record StandsForDesk (layout : Layout) (jobs : JobsView) (image : List ℕ) 
   pub committed : HasCommitted desk.layout desk.office image
 
 -- ---- while a run ends
-
-abbrev pub seen_without : ℕ → List RunningStepView → List RunningStepView
-seen_without run seen = filter (λ (on : RunningStepView). not (on.run == run)) seen
 
 abbrev pub steps_without : ℕ → List DeskStep → List DeskStep
 steps_without run running = filter (λ (step : DeskStep). not (step.run == run)) running

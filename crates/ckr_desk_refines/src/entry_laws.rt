@@ -29,7 +29,7 @@ ghost use Rattle.ckr_volumes.specs.Layouts.{StandsIn, lie_apart};
 ghost use Rattle.ckr_volumes.specs.Records.{records_on};
 ghost use Rattle.ckr_volumes.specs.SamePlaces.{SamePlaces};
 ghost use Rattle.ckr_desk_turn.specs.Checkpoints.{MayCheckpoint, check_set, entry_place, office_behind, written_entry};
-ghost use Rattle.ckr_desk_turn.specs.Desk.{DeskStep, start_of};
+ghost use Rattle.ckr_desk_turn.specs.Desk.{DeskStep};
 ghost use Rattle.ckr_desk_turn.specs.Jobs.{effect_entry};
 ghost use Rattle.ckr_desk_turn.specs.Invariant.{HasRuns};
 ghost use Rattle.ckr_desk_turn.specs.DeckEvents.{AreDeckEvents};
@@ -37,6 +37,7 @@ ghost use Rattle.ckr_desk_refines.specs.StepSets.{HasSets};
 ghost use Rattle.ckr_desk_refines.specs.SharedSets.{LeavesOthers};
 ghost use Rattle.ckr_desk_refines.specs.Entries.{AreOwned, AreWithin, HasCheckDd, HasCheckSet, HasEntries, HasNewEntry, IsReadBack, IsReadInEffect, HasWritten, OnlyCheckSetsKeep, SameKept, entry_taken, jobs_of, takes_checkpoint};
 ghost use Rattle.ckr_desk_refines.specs.EntryRefusal.{AreInEffect, HasStepNames, LeavesReach, entry_refusal};
+ghost use Rattle.ckr_points.specs.Payload.{start_in_office};
 
 /// The tables of no events keep no entry, and no run has a checkpoint in effect.
 pub fn no_events_keep_no_entry()
@@ -91,7 +92,7 @@ pub fn kept_entries_are_read()
 /// isn't.
 pub fn entries_in_effect_have_the_state_of_their_job()
     ensures { (layout : Layout) (office : Office) (image : List ℕ) (number : ℕ) (row : RunRow) (entry : KeptEntry) (start : StepStart) → IsKept layout office → AreReady office → AreInEffect office → HasEntries layout office image
-        → run_of office.tables number ≡ Some row → effect_entry office.tables row ≡ Some entry → start_of office row ≡ Some start → IsReadInEffect layout office image row entry start }
+        → run_of office.tables number ≡ Some row → effect_entry office.tables row ≡ Some entry → start_in_office office row ≡ Some start → IsReadInEffect layout office image row entry start }
 {}
 
 /// Where an image has the entries that the tables keep, and each checkpoint in effect is one of the step that its run is in, no entry is

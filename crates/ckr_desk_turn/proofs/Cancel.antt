@@ -14,7 +14,7 @@ use Rattle.ckr_points.specs.Rows.{RunRow, run_of}
 use Rattle.ckr_points.specs.Tables.{after_cancelled}
 use Rattle.ckr_points_invariant.proofs.Holders.Rows.{run-other, run-same}
 use Rattle.ckr_desk_turn.specs.declared.failed_run.FailedRun.{FailedRun}
-use Rattle.ckr_desk_turn.specs.Desk.{DeskModel, DeskStep, behind as desk_behind, cancel_done, start_of, without_run}
+use Rattle.ckr_desk_turn.specs.Desk.{DeskModel, DeskStep, behind as desk_behind, cancel_done, without_run}
 use Rattle.ckr_desk_turn.specs.NextEvents.{Comes, IsWithinStep}
 use Rattle.ckr_desk_turn.specs.Invariant.{IsAdmitted, IsDesk, IsFailed, IsGoing, is_accounted}
 use Rattle.ckr_desk_turn.proofs.Checkpoints.Events.{cancel-comes}
@@ -22,6 +22,7 @@ use Rattle.ckr_desk_turn.proofs.OtherRuns.{Changes, admitted-then, each_row, fai
 use Rattle.ckr_desk_turn.proofs.Readiness.{kept-on}
 use Rattle.ckr_desk_turn.proofs.Moves.{accounted_so, come-served, come-uncoded, with_change-found}
 use Rattle.ckr_points_invariant.specs.KeptEvents.{AreKept}
+use Rattle.ckr_points.specs.Payload.{start_in_office}
 
 module _ (desk : DeskModel) (is : IsDesk desk) (row : RunRow) (number committed : ℕ) (start : StepStart) (within : IsWithinStep desk.office row.number row number committed start) where
   pub cancelled-comes : Comes desk (CancelledEvent row.number)
@@ -79,7 +80,7 @@ module _ (desk : DeskModel) (is : IsDesk desk) (row : RunRow) (number committed 
       committed = going.committed;
       place = ap (λ (r : RunRow). r.place) (sym mine) ∙ going.place;
       start = going.start;
-      start_at = ap (start_of desk.office) (sym mine) ∙ going.start_at;
+      start_at = ap (start_in_office desk.office) (sym mine) ∙ going.start_at;
       fit = going.fit;
       behind = going.behind;
       plain = going.plain;

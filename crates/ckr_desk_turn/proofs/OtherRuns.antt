@@ -20,8 +20,9 @@ use Rattle.ckr_points.specs.Office.{Leg, Office}
 use Rattle.ckr_points.specs.Restart.{place_of, step_in}
 use Rattle.ckr_points.specs.Rows.{RunRow, run_of}
 use Rattle.ckr_desk_turn.specs.declared.failed_run.FailedRun.{FailedRun}
-use Rattle.ckr_desk_turn.specs.Desk.{DeskModel, DeskStep, start_of, without_mark, without_run}
+use Rattle.ckr_desk_turn.specs.Desk.{DeskModel, DeskStep, without_mark, without_run}
 use Rattle.ckr_desk_turn.specs.Invariant.{IsAdmitted, IsDesk, IsFailed, IsGoing, has_code_while_off, has_its_step, is_accounted, is_in_its_state, is_off, is_on_one}
+use Rattle.ckr_points.specs.Payload.{start_in_office}
 
 -- ---- lists
 
@@ -108,7 +109,7 @@ pub record Changes (office after : Office) (job : ℕ) (next : RunRow) : Type 0 
   pub legs : after.legs ≡ office.legs
 
 -- a running step goes on where the row of its run and its start are as they were, and so does a mark
-pub going-still : (office after : Office) (on : DeskStep) (going : IsGoing office on) → run_of after.tables on.run ≡ run_of office.tables on.run → start_of after going.row ≡ start_of office going.row → IsGoing after on
+pub going-still : (office after : Office) (on : DeskStep) (going : IsGoing office on) → run_of after.tables on.run ≡ run_of office.tables on.run → start_in_office after going.row ≡ start_in_office office going.row → IsGoing after on
 going-still office after on going same_row same_start = record {
   row = going.row;
   row_at = same_row ∙ going.row_at;
@@ -124,7 +125,7 @@ going-still office after on going same_row same_start = record {
   come = going.come;
 }
 
-pub failed-still : (office after : Office) (one : FailedRun) (failed : IsFailed office one) → run_of after.tables one.run ≡ run_of office.tables one.run → start_of after failed.row ≡ start_of office failed.row → IsFailed after one
+pub failed-still : (office after : Office) (one : FailedRun) (failed : IsFailed office one) → run_of after.tables one.run ≡ run_of office.tables one.run → start_in_office after failed.row ≡ start_in_office office failed.row → IsFailed after one
 failed-still office after one failed same_row same_start = record {
   row = failed.row;
   number = failed.number;
@@ -139,7 +140,7 @@ failed-still office after one failed same_row same_start = record {
 }
 
 module _ (office after : Office) (job : ℕ) (next : RunRow) (changes : Changes office after job next) where
-  start-there : (row : RunRow) → start_of after row ≡ start_of office row
+  start-there : (row : RunRow) → start_in_office after row ≡ start_in_office office row
   start-there row = ap (λ (legs : List Leg). option_map_or (λ leg. start_at leg.job leg.start (step_in (place_of row))) (find (λ leg. leg.number == row.number) legs) None) changes.legs
 
   going-there : (on : DeskStep) → on.run ≢ job → IsGoing office on → IsGoing after on

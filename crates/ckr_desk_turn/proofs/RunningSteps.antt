@@ -23,7 +23,7 @@ use Rattle.ckr_meaning.specs.EffectiveJob.{Effective, OwnedStep, is_among}
 use Rattle.ckr_meaning.specs.declared.place.Place.{Place}
 use Rattle.ckr_meaning.specs.declared.place.Place.TheVariants.{Before}
 use Rattle.ckr_meaning.specs.StepRun.{StepStart, within_at, work_at}
-use Rattle.ckr_points.specs.Payload.{is_in_place, length_by, length_now, lengths_at, lengths_kept, rewrites_nothing, writes_in}
+use Rattle.ckr_points.specs.Payload.{is_in_place, length_by, length_now, lengths_at, lengths_kept, rewrites_nothing, writes_in, start_in_office}
 use Rattle.ckr_points.specs.Office.{Office}
 use Rattle.ckr_points.specs.Restart.{place_of, step_in}
 use Rattle.ckr_points.specs.Rows.{RunRow, TableSet, run_of, step_of_run}
@@ -34,7 +34,7 @@ use Rattle.ckr_points_invariant.specs.RunningSteps.{its_start}
 use Rattle.ckr_points_invariant.proofs.Steps.Commits.{alike_within, in_reach, place_so, under_way}
 use Rattle.ckr_points_invariant.proofs.Holders.Places.{outputs-among}
 use Rattle.ckr_desk_turn.specs.Codes.{CodePlaceModel, kept_reached, reached_by, running_reached, verdict_for}
-use Rattle.ckr_desk_turn.specs.Desk.{DeskModel, DeskStep, jobs_of, progress_unless, seen, seen_from, seen_step, start_of}
+use Rattle.ckr_desk_turn.specs.Desk.{DeskModel, DeskStep, jobs_of, progress_unless, seen, seen_from, seen_step}
 use Rattle.ckr_desk_turn.specs.Jobs.{TurnStep, as_stopped, running_in}
 use Rattle.ckr_desk_turn.specs.Units.{StepProgress}
 use Rattle.ckr_desk_turn.specs.NextEvents.{Comes, IsWithinStep}
@@ -47,10 +47,10 @@ use Rattle.ckr_desk_turn.proofs.NextEvents.Holders.{HoldsStep, by-holder, coded-
 abbrev pub nothing_seen : ℕ → StepProgress → TurnStep
 nothing_seen run progress = record { run = run; taken = progress.taken; writes = progress.writes; due = OneUnit; lengths = []; code = None }
 
-pub seen-so : (office : Office) (run : ℕ) (progress : StepProgress) (row : RunRow) (start : StepStart) → run_of office.tables run ≡ Some row → start_of office row ≡ Some start → seen office run progress ≡ seen_from office run progress start
+pub seen-so : (office : Office) (run : ℕ) (progress : StepProgress) (row : RunRow) (start : StepStart) → run_of office.tables run ≡ Some row → start_in_office office row ≡ Some start → seen office run progress ≡ seen_from office run progress start
 seen-so office run progress row start row_at start_at =
     ap (λ (o : Option StepStart). option_map_or (seen_from office run progress) o (nothing_seen run progress))
-    (ap (λ (o : Option RunRow). option_map_or (start_of office) o None) row_at ∙ start_at)
+    (ap (λ (o : Option RunRow). option_map_or (start_in_office office) o None) row_at ∙ start_at)
 
 -- a running step of this start, which has stopped where its run waits with a code
 abbrev pub seen_at : Office → DeskStep → StepStart → TurnStep
@@ -201,7 +201,7 @@ module _ (desk : DeskModel) (is : IsDesk desk) (row : RunRow) (number committed 
       let found : FoundStep desk.office desk.running row.number step = found-step desk.office row.number desk.running step is.going some in
       let its : IsWithinStep desk.office found.on.run found.going.row found.going.number found.going.committed found.going.start = going-within desk.office found.on found.going in
       let mine : found.going.row ≡ row = same_Some _ _ (sym found.going.row_at ∙ ap (run_of desk.office.tables) found.same ∙ held.row_at) in
-      let begun : found.going.start ≡ start = same_Some _ _ (sym found.going.start_at ∙ ap (start_of desk.office) mine ∙ held.start_at) in
+      let begun : found.going.start ≡ start = same_Some _ _ (sym found.going.start_at ∙ ap (start_in_office desk.office) mine ∙ held.start_at) in
       let behind : found.going.committed ≡ committed = ap writes_in (sym its.place ∙ ap place_of mine ∙ held.place) in
       subst P (sym (ap (λ (o : Option TurnStep). option_map_or running_reached o (kept_reached (jobs_of desk) row)) some ∙ ap running_reached found.is ∙ stopped-reached found.on.code (seen_from desk.office found.on.run found.on.progress found.going.start) ∙ ap (λ s. running_reached (seen_from desk.office found.on.run found.on.progress s)) begun))
       (each found.on.progress.writes

@@ -35,13 +35,14 @@ use Rattle.ckr_points_invariant.proofs.KeptEvents.{next-kept}
 use Rattle.ckr_desk_turn.proofs.Readiness.{desk-kept}
 use Rattle.ckr_points_invariant.proofs.Select.Holders.{all_legs}
 use Rattle.ckr_desk_turn.specs.declared.failed_run.FailedRun.{FailedRun}
-use Rattle.ckr_desk_turn.specs.Desk.{DeskModel, DeskStep, behind, start_of, submitted as submitted_desk, purged as purged_desk, released as released_desk}
+use Rattle.ckr_desk_turn.specs.Desk.{DeskModel, DeskStep, behind, submitted as submitted_desk, purged as purged_desk, released as released_desk}
 use Rattle.ckr_desk_turn.specs.Invariant.{IsAdmitted, IsDesk, IsFailed, IsGoing, has_its_step, is_in_its_state, is_off, is_on_one}
 use Rattle.ckr_desk_turn.proofs.AdmittedSteps.{queued-admitted}
 use Rattle.ckr_desk_turn.proofs.NextEvents.BetweenSteps.{purged_comes, released_comes, submitted_comes}
 use Rattle.ckr_desk_turn.proofs.OtherRuns.{Changes, accounted-then, admitted-then, failed-still, going-still, states-then, row-admitted, row-in-state, row-stepped, stepped-then}
 use Rattle.ckr_desk_turn.proofs.Readiness.{kept-on}
 use Rattle.ckr_points_invariant.specs.KeptEvents.{AreKept}
+use Rattle.ckr_points.specs.Payload.{start_in_office}
 
 -- ---- the runs on initiators
 
@@ -51,7 +52,7 @@ pub record Stays (office after : Office) (run : ℕ) : Type 0 where
   pub leg : leg_of after run ≡ leg_of office run
 
 module _ (desk : DeskModel) (is : IsDesk desk) (after : Office) (stay : (run : ℕ) (row : RunRow) → run_of desk.office.tables run ≡ Some row → row.state ≡ On → Stays desk.office after run) where
-  start-stays : (run : ℕ) (row : RunRow) → run_of desk.office.tables run ≡ Some row → row.state ≡ On → start_of after row ≡ start_of desk.office row
+  start-stays : (run : ℕ) (row : RunRow) → run_of desk.office.tables run ≡ Some row → row.state ≡ On → start_in_office after row ≡ start_in_office desk.office row
   start-stays run row at on =
       let its : row.number ≡ run = is.kept.events.numbered run row at in
       ap (λ (o : Option Leg). option_map_or (λ leg. start_at leg.job leg.start (step_in (place_of row))) o None)

@@ -1,19 +1,14 @@
 -- The allocation of a step of a run, by the data sets of the tables.
-use Rattle.std.specs.Prelude.{ℕ, List, map, Result, Ok, Err}
+use Rattle.std.specs.Prelude.{ℕ, List, Result, Ok, Err}
 use Rattle.ckr_points_library.specs.declared.cause.Cause.{Cause}
 use Rattle.ckr_points_library.specs.declared.cause.Cause.TheVariants.{Missing, Exists, WrongKind, WrongVolume, NoVolume, NoSpace, Units, MountRefused}
 use Rattle.ckr_points_library.specs.declared.cause.Refusal.{Refusal}
 use Rattle.ckr_points_library.specs.Allocation.{Allocation, allocated_all}
 use Rattle.ckr_events.specs.declared.event.Made.{Made}
-use Rattle.ckr_library.specs.Catalog.{Holding}
-use Rattle.ckr_library.specs.NameMaps.{Named}
 use Rattle.ckr_meaning.specs.EffectiveJob.{OwnedStep, placed_in, stamp_of}
-use Rattle.ckr_points.specs.Rows.{RunRow, TableSet, TablesModel, holding_of, standing_of, table_ways}
+use Rattle.ckr_points.specs.Rows.{RunRow, TablesModel, standing_of, table_ways}
 use Rattle.ckr_volumes.specs.declared.layout.Layout.{Layout}
-
--- the data sets of the tables as the library has them
-abbrev pub holdings : Named TableSet → Named Holding
-holdings sets = map (λ entry. (entry.0, holding_of entry.1)) sets
+use Rattle.ckr_points.specs.Staleness.{held_sets}
 
 abbrev pub items_in : Result Allocation Refusal → Result (List Made) Refusal
 items_in (Ok done) = Ok done.items
@@ -22,7 +17,7 @@ items_in (Err refusal) = Err refusal
 -- the new parts of a step's data sets, or the first DD that isn't allocated
 abbrev pub allocation_of : Layout → RunRow → OwnedStep → ℕ → TablesModel → Result (List Made) Refusal
 allocation_of layout row owned number tables =
-    items_in (allocated_all layout (stamp_of owned number) (placed_in table_ways (standing_of row tables) row.job.root owned) (holdings tables.sets))
+    items_in (allocated_all layout (stamp_of owned number) (placed_in table_ways (standing_of row tables) row.job.root owned) (held_sets tables.sets))
 
 -- the number of a cause in an event, and its two numbers
 abbrev pub cause_numbers : Cause → ℕ × ℕ × ℕ

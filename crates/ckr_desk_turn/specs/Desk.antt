@@ -8,11 +8,10 @@ use Rattle.ckr_events.specs.declared.event.Event.{Event}
 use Rattle.ckr_events.specs.declared.event.Event.TheVariants.{Submitted, Selected, Started, Cancelled, StepEnded, Restarted, Held, Released, Ended, Purged}
 use Rattle.ckr_jcl.specs.declared.deck.Job.{Job}
 use Rattle.ckr_library.specs.NameMaps.{Name}
-use Rattle.ckr_meaning.specs.JobRun.{start_at}
 use Rattle.ckr_meaning.specs.StepRun.{StepStart}
-use Rattle.ckr_points.specs.Payload.{lengths_at}
-use Rattle.ckr_points.specs.Office.{Office, office_after, leg_of}
-use Rattle.ckr_points.specs.Restart.{kept_at, place_of, step_in, syschk_name}
+use Rattle.ckr_points.specs.Payload.{lengths_at, start_in_office}
+use Rattle.ckr_points.specs.Office.{Office, office_after}
+use Rattle.ckr_points.specs.Restart.{kept_at, place_of, syschk_name}
 use Rattle.ckr_points.specs.Rows.{EntryPoint, RunRow, TablesModel, run_of}
 use Rattle.ckr_volumes.specs.declared.layout.Layout.{Layout}
 use Rattle.ckr_desk_turn.specs.declared.plan.Plan.{Plan}
@@ -46,12 +45,8 @@ pub record TurnDone : Type 0 where
   pub desk : DeskModel
   pub asked : Bool
 
--- the step that a run is before or in, as its job comes to it without interruption
-abbrev pub start_of : Office → RunRow → Option StepStart
-start_of office row = option_map_or (λ leg. start_at leg.job leg.start (step_in (place_of row))) (leg_of office row.number) None
-
 abbrev pub start_in_run : Office → ℕ → Option StepStart
-start_in_run office run = option_map_or (start_of office) (run_of office.tables run) None
+start_in_run office run = option_map_or (start_in_office office) (run_of office.tables run) None
 
 -- ---- its jobs
 
@@ -208,7 +203,7 @@ work_of answer run desk =
     (λ row.
     option_map_or
     (λ start. option_map_or (λ progress. unit_done answer row (unit_end start progress) desk) (progress_of desk run) (done_by (Rest Idle) desk))
-    (start_of desk.office row) (done_by (Rest Idle) desk))
+    (start_in_office desk.office row) (done_by (Rest Idle) desk))
     (run_of desk.office.tables run) (done_by (Rest Idle) desk)
 
 -- ---- the other calls

@@ -16,7 +16,7 @@ use Rattle.ckr_meaning.specs.StepRun.{StepStart, case_at, work_at}
 use Rattle.ckr_points.specs.declared.run.RunState.{RunState}
 use Rattle.ckr_points.specs.declared.run.RunState.TheVariants.{Queued, On, Held, Released}
 use Rattle.ckr_points.specs.Follows.{is_running, own_step}
-use Rattle.ckr_points.specs.Payload.{rewrites_nothing}
+use Rattle.ckr_points.specs.Payload.{rewrites_nothing, start_in_office}
 use Rattle.ckr_points.specs.Office.{Leg, Office}
 use Rattle.ckr_points.specs.Rows.{RunRow, run_of}
 use Rattle.ckr_points_invariant.specs.Invariant.{IsKept}
@@ -26,7 +26,7 @@ use Rattle.ckr_points_invariant.specs.StartedSteps.{AreBegunSteps}
 use Rattle.ckr_points_invariant.specs.WrittenEntries.{AreWrittenEntries}
 use Rattle.ckr_desk_turn.specs.declared.failed_run.FailedRun.{FailedRun}
 use Rattle.ckr_desk_turn.specs.declared.reply.Turn.{Turn}
-use Rattle.ckr_desk_turn.specs.Desk.{DeskModel, DeskStep, TurnDone, start_of}
+use Rattle.ckr_desk_turn.specs.Desk.{DeskModel, DeskStep, TurnDone}
 use Rattle.ckr_desk_turn.specs.Units.{StepProgress}
 use Rattle.ckr_volumes.specs.declared.layout.Layout.{Layout}
 use Rattle.ckr_desk_turn.specs.NextEvents.{EventComes, IsWithinStep}
@@ -59,7 +59,7 @@ pub record IsGoing (office : Office) (step : DeskStep) : Type 0 where
   pub committed : ℕ
   pub place : row.place ≡ Some (Within number committed)
   pub start : StepStart
-  pub start_at : start_of office row ≡ Some start
+  pub start_at : start_in_office office row ≡ Some start
   pub fit : step.progress.writes ≤ length (work_at start).writes
   pub behind : committed ≤ step.progress.writes
   pub plain : rewrites_nothing start committed step.progress.writes ≡ true

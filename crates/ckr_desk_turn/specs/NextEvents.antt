@@ -8,7 +8,8 @@ use Rattle.ckr_points.specs.Events.{IsNext}
 use Rattle.ckr_points.specs.Office.{Office}
 use Rattle.ckr_points.specs.Restart.{place_of}
 use Rattle.ckr_points.specs.Rows.{RunRow, run_of}
-use Rattle.ckr_desk_turn.specs.Desk.{DeskModel, start_of}
+use Rattle.ckr_desk_turn.specs.Desk.{DeskModel}
+use Rattle.ckr_points.specs.Payload.{start_in_office}
 
 abbrev pub Comes : DeskModel → Event → Type 0
 Comes desk event = IsNext desk.layout desk.office (event, None)
@@ -18,7 +19,7 @@ pub record IsWithinStep (office : Office) (run : ℕ) (row : RunRow) (number com
   pub row_at : run_of office.tables run ≡ Some row
   pub on : row.state ≡ On
   pub place : place_of row ≡ Within number committed
-  pub start_at : start_of office row ≡ Some start
+  pub start_at : start_in_office office row ≡ Some start
 
 -- the event of a turn, where it has one
 abbrev pub EventComes : DeskModel → Option Event → Type 0

@@ -14,11 +14,12 @@ use Rattle.ckr_rules.specs.declared.cases.Verdict.{Verdict}
 use Rattle.ckr_volumes.specs.declared.layout.Layout.{Layout}
 use Rattle.ckr_desk_turn.specs.declared.reply.Turn.{Turn}
 use Rattle.ckr_desk_turn.specs.Codes.{verdict_for}
-use Rattle.ckr_desk_turn.specs.Desk.{DeskModel, behind, jobs_of, start_of}
+use Rattle.ckr_desk_turn.specs.Desk.{DeskModel, behind, jobs_of}
 use Rattle.ckr_desk_turn.specs.Invariant.{IsDesk}
 use Rattle.ckr_desk_turn.specs.Jobs.{is_failed, system_failure, waiting_code}
 use Rattle.ckr_desk_turn.specs.NextEvents.{Comes, IsWithinStep}
 use Rattle.ckr_desk_turn.specs.Select.{run_on_initiator}
+use Rattle.ckr_points.specs.Payload.{start_in_office}
 
 -- a run on its initiator within a step, running or marked since the system failed, and what the rules say of it after a code
 pub record IsJudged (layout : Layout) (office : Office) (row : RunRow) (initiator : ℕ) (code : Code) (verdict : Verdict) : Type 0 where
@@ -53,7 +54,7 @@ pub record IsJudgedOff (layout : Layout) (office : Office) (row : RunRow) (code 
   pub row_at : run_of office.tables row.number ≡ Some row
   pub off : row.state ≡ Released
   pub place : place_of row ≡ Within number committed
-  pub start_at : start_of office row ≡ Some start
+  pub start_at : start_in_office office row ≡ Some start
   pub coded : row.code ≡ Some code
   pub judged : verdict_for layout row code ≡ verdict
 

@@ -6,7 +6,8 @@ use Rattle.ckr_points.specs.Rows.{RunRow, run_of}
 use Rattle.ckr_desk_turn.specs.declared.plan.Plan.TheVariants.{Rest}
 use Rattle.ckr_points.specs.declared.reply.Reply.TheVariants.{Idle}
 use Rattle.ckr_desk_turn.specs.Checkpoints.{ServedTurn, checkpoint_turn}
-use Rattle.ckr_desk_turn.specs.Desk.{DeskModel, TurnDone, behind, done_by, progress_of, start_of, with_progress}
+use Rattle.ckr_desk_turn.specs.Desk.{DeskModel, TurnDone, behind, done_by, progress_of, with_progress}
+use Rattle.ckr_points.specs.Payload.{start_in_office}
 
 -- the desk behind the event of an entry, where one is written
 abbrev pub behind_entry : Option Event → DeskModel → DeskModel
@@ -28,5 +29,5 @@ taken_of run desk =
     (λ row.
     option_map_or
     (λ start. option_map_or (λ progress. served_by row (checkpoint_turn desk.office.tables row start progress) desk) (progress_of desk run) (done_by (Rest Idle) desk))
-    (start_of desk.office row) (done_by (Rest Idle) desk))
+    (start_in_office desk.office row) (done_by (Rest Idle) desk))
     (run_of desk.office.tables run) (done_by (Rest Idle) desk)

@@ -1,6 +1,6 @@
 -- Which points have an entry, its one spelling, and which entry is read from bytes.
 use Rattle.std.specs.Prelude.{◌≡◌, ◌<◌, ◌-◌, ◌^◌, ◌==◌, ℕ, List, length, Result, Ok, Err, min, if◌then◌else◌}
-use Rattle.ckr_fields.specs.Readers.{◌>>=◌}
+use Rattle.ckr_fields.specs.Readers.{◌>>=◌, at_offset}
 use Rattle.ckr_fields.specs.declared.error.ReadError.{ReadError}
 use Rattle.ckr_fields.specs.declared.error.ReadError.TheVariants as ReadErrors
 use Rattle.ckr_entry.specs.declared.error.EntryError.{EntryError}
@@ -22,11 +22,6 @@ IsCounted e = (length e.marks < 2 ^ 16) × (length e.passed < 2 ^ 16)
 -- an entry and nothing behind it
 unfoldable pub whole_at : List ℕ → Result Entry ℕ
 whole_at bytes = entry_at bytes >>= λ x. if length x.1 == 0 then Ok x.0 else Err (length x.1)
-
--- a fault is told by its offset in place of the bytes that are left from it on
-abbrev pub at_offset : {A : Type 0} → ℕ → Result A ℕ → Result A ℕ
-at_offset size (Ok x) = Ok x
-at_offset size (Err left) = Err (size - left)
 
 -- The entry that the bytes are. Else it is the offset of the first byte of the first field that isn't in its grammar,
 -- the number of bytes where some are missing, or the offset behind the last field where bytes remain.

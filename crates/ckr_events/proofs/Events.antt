@@ -4,11 +4,11 @@ use Rattle.std.proofs.lemmas.Bool.{eqb-true}
 use Rattle.std.proofs.lemmas.List.{append-nil, nil_from_length}
 use Rattle.ckr_fields.specs.Bytes.{AreBytes}
 use Rattle.ckr_fields.specs.Fields.{byte_at}
-use Rattle.ckr_fields.specs.Readers.{◌>>=◌}
+use Rattle.ckr_fields.specs.Readers.{◌>>=◌, at_offset}
 use Rattle.ckr_fields.proofs.Steps.{bind_ok, test_ok}
 use Rattle.ckr_fields.proofs.Laws.{byte_both, made_alone, IsTagged, none_tagged, is_tagged, if_tag}
 use Rattle.ckr_events.specs.Format.{job, submitted, selected, denied, started, rewritten, checkpointed, step_ended, restarted, held, ended}
-use Rattle.ckr_events.specs.Event.{IsEvent, spelling, submitted_at, selected_at, denied_at, started_at, rewritten_at, checkpointed_at, cancelled_at, step_ended_at, restarted_at, held_at, released_at, ended_at, purged_at, fields_at, whole_at, at_offset, event_of}
+use Rattle.ckr_events.specs.Event.{IsEvent, spelling, submitted_at, selected_at, denied_at, started_at, rewritten_at, checkpointed_at, cancelled_at, step_ended_at, restarted_at, held_at, released_at, ended_at, purged_at, fields_at, whole_at, event_of}
 use Rattle.ckr_events.specs.declared.event.Event.{Event}
 use Rattle.ckr_events.specs.declared.event.Event.TheVariants.{Submitted, Selected, Denied, Started, Rewritten, Checkpointed, Cancelled, StepEnded, Restarted, Held, Released, Ended, Purged}
 use Rattle.ckr_events.proofs.Fields.{job_both, submitted_both, selected_both, denied_both, started_both, rewritten_both, checkpointed_both, step_ended_both, restarted_both, held_both, ended_both}

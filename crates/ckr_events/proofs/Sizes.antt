@@ -8,12 +8,12 @@ use Rattle.std.specs.Prelude.{nat_lt}
 use Rattle.ckr_base.specs.Grammar.{is_ds_name, is_check_id}
 use Rattle.ckr_base.specs.declared.code.Code.TheVariants.{System, User}
 use Rattle.ckr_fields.specs.Fields.{Field, between, both_at, byte, blocks_at, byte_at, bytes_at, check_id, code_at, flag_at, four_bytes, items_at, judged, judged_at, number_at, optional_at, record_bytes, seen_at, short_text, starts_with_zero, text_at, times_at, two_bytes}
-use Rattle.ckr_fields.specs.Readers.{Reading, ◌>>=◌}
+use Rattle.ckr_fields.specs.Readers.{Reading, ◌>>=◌, at_offset}
 use Rattle.ckr_fields.proofs.Steps.{bind_ok, guard_ok, ok_is, test_ok}
 use Rattle.ckr_events.specs.declared.event.Event.{Event}
 use Rattle.ckr_events.specs.declared.event.Event.TheVariants.{Cancelled, Checkpointed, Denied, Ended, Held, Purged, Released, Restarted, Rewritten, Selected, Started, StepEnded, Submitted}
 use Rattle.ckr_events.specs.declared.event.Ending.TheVariants.{Completed, Coded, Allocation}
-use Rattle.ckr_events.specs.Event.{at_offset, cancelled_at, checkpointed_at, denied_at, ended_at, event_of, fields_at, held_at, most_bytes, purged_at, released_at, restarted_at, rewritten_at, selected_at, started_at, step_ended_at, submitted_at, whole_at}
+use Rattle.ckr_events.specs.Event.{cancelled_at, checkpointed_at, denied_at, ended_at, event_of, fields_at, held_at, most_bytes, purged_at, released_at, restarted_at, rewritten_at, selected_at, started_at, step_ended_at, submitted_at, whole_at}
 use Rattle.ckr_events.specs.Format.{all_made, allocation, allocation_at, checkpointed, coded, coded_at, denied, ended, ending_at, from_one, held, job, length_list, lengths_at, made_at, made_list_at, made_parts, number_if_at, piece_at, piece_list, piece_parts, pieces_at, restarted, rewritten, selected, started, step_ended, submitted}
 
 -- ---- the bytes of a field

@@ -1,6 +1,6 @@
 -- Which events have a spelling, their one spelling, and which event is read from bytes.
 use Rattle.std.specs.Prelude.{◌≡◌, ◌<◌, ◌+◌, ◌*◌, ◌-◌, ◌/◌, ◌^◌, ◌==◌, ℕ, List, ◌∷◌, length, Result, Ok, Err, min, if◌then◌else◌}
-use Rattle.ckr_fields.specs.Readers.{Reading, ◌>>=◌}
+use Rattle.ckr_fields.specs.Readers.{Reading, ◌>>=◌, at_offset}
 use Rattle.ckr_fields.specs.Fields.{byte_at, seen_at}
 use Rattle.ckr_events.specs.Format.{job, submitted, selected, denied, started, rewritten, checkpointed, step_ended, restarted, held, ended}
 use Rattle.ckr_fields.specs.declared.error.ReadError.{ReadError}
@@ -120,11 +120,6 @@ fields_at kind left bytes =
 unfoldable pub whole_at : List ℕ → Result Event ℕ
 whole_at bytes =
     byte_at bytes >>= λ kind. fields_at kind.0 (length bytes) kind.1 >>= λ x. if length x.1 == 0 then Ok x.0 else Err (length x.1)
-
--- a fault is told by its offset in place of the bytes that are left from it on
-abbrev pub at_offset : {A : Type 0} → ℕ → Result A ℕ → Result A ℕ
-at_offset size (Ok x) = Ok x
-at_offset size (Err left) = Err (size - left)
 
 -- The event that the bytes are. Else it is the offset of the first byte of the first field that isn't in its grammar,
 -- the number of bytes where some are missing, or the offset behind the last field where bytes remain.

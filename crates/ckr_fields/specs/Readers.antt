@@ -1,5 +1,5 @@
 -- Reading a format from left to right.
-use Rattle.std.specs.Prelude.{◌≡◌, ℕ, List, Result, Ok, Err}
+use Rattle.std.specs.Prelude.{◌≡◌, ◌-◌, ℕ, List, Result, Ok, Err}
 use Rattle.ckr_fields.specs.declared.error.ReadError.{ReadError}
 use Rattle.ckr_fields.specs.declared.error.ReadError.TheVariants.{NoMemory, Wrong}
 
@@ -13,6 +13,11 @@ infixl 10 ◌>>=◌
 abbrev pub ◌>>=◌ : {A B : Type 0} → Result A ℕ → (A → Result B ℕ) → Result B ℕ
 (Ok x) >>= f = f x
 (Err left) >>= f = Err left
+
+-- a fault is told by its offset in place of the bytes that are left from it on
+abbrev pub at_offset : {A : Type 0} → ℕ → Result A ℕ → Result A ℕ
+at_offset size (Ok x) = Ok x
+at_offset size (Err left) = Err (size - left)
 
 -- what a function returned, seen by `view`, and the bytes that it left are what is read, unless memory ran out
 abbrev pub Gives : {X Y : Type 0} → (X → Y) → Reading Y → Result X ReadError → List ℕ → Type 0

@@ -1,5 +1,5 @@
 -- What a formatted disk reads, and what one reads that is being formatted.
-use Rattle.std.proofs.Common.{◌≡◌, ◌≤◌, ◌<◌, ◌+◌, ◌-◌, ◌==◌, ◌⊎◌, ℕ, false, not, nat_le, List, [], ◌∷◌, ◌++◌, length, take, drop, inl, inr, ⊎_elim, min, Ok, Err, refl, sym, ◌∙◌, ap, subst, arith, append_assoc, length-drop}
+use Rattle.std.proofs.Common.{◌≡◌, ◌≤◌, ◌<◌, ◌+◌, ◌-◌, ◌==◌, ◌⊎◌, ℕ, false, not, nat_le, List, [], ◌∷◌, ◌++◌, length, take, drop, inl, inr, ⊎_elim, min, Ok, refl, sym, ◌∙◌, ap, subst, arith, append_assoc, length-drop}
 use Rattle.std.proofs.lemmas.Bool.{cases_Bool, cases_lt, cond-true, and_left, and_right, and_parts, leb-true, eqb-true}
 use Rattle.std.proofs.lemmas.List.{take_at, drop_at, take_all}
 use Rattle.ckr_outside.specs.Disk.{Overwrites, SameOutside, part}
@@ -9,22 +9,7 @@ use Rattle.ckr_volumes.specs.Header.{header_of, header_bytes, is_formatted, IsHe
 use Rattle.ckr_volumes.specs.Layouts.{front_of, volumes_end, disk_needed}
 use Rattle.ckr_volumes.specs.declared.layout.Volume.{Volume}
 use Rattle.ckr_volumes.specs.declared.layout.Layout.{Layout}
-use Rattle.ckr_volumes.specs.declared.header.HeaderError.TheVariants.{NotFormatted}
 use Rattle.ckr_journal.specs.FormatStops.{IsUnformatted, IsFresh}
-
--- fewer than 512 bytes say no layout
-refused : (bytes : List ℕ) (size : ℕ) → nat_le 512 (length bytes) ≡ false → header_of bytes size ≡ Err NotFormatted
-unfolding header_of is_formatted
-refused bytes size short = cond-true (not (is_formatted bytes)) _ _ (ap not (and_left (nat_le 512 (length bytes)) _ short))
-
-pub header_long : (bytes : List ℕ) (size : ℕ) (layout : Layout) → header_of bytes size ≡ Ok layout → 512 ≤ length bytes
-header_long bytes size layout said = elim (cases_Bool (nat_le 512 (length bytes))) [
-  | inl long ↦ leb-true 512 (length bytes) long
-  | inr short ↦ absurd (differ (sym said ∙ refused bytes size short))
-]
-  where
-    differ : Ok layout ≡ Err NotFormatted → ⊥
-    differ e = cc
 
 -- what fits one disk fits another that is large enough
 on_disk : (layout : Layout) (size other : ℕ) → IsHeader layout size → disk_needed layout ≤ other → IsHeader layout other

@@ -1,5 +1,5 @@
 -- How far the spans of a volume reach, span by span, and whether they leave a hole.
-use Rattle.std.specs.Prelude.{ℕ, ◌+◌, ◌==◌, ◌&&◌, ◌||◌, ◌≡◌, Bool, true, nat_le, nat_lt, max, if◌then◌else◌, IsTrue, List, [], ◌∷◌}
+use Rattle.std.specs.Prelude.{ℕ, ◌==◌, ◌&&◌, ◌||◌, ◌≡◌, Bool, true, nat_le, nat_lt, max, if◌then◌else◌, IsTrue, List, [], ◌∷◌}
 use Rattle.ckr_library.specs.declared.fronts.Front.{Front}
 use Rattle.ckr_library.specs.declared.spread.Span.{Span}
 use Rattle.ckr_library.specs.Spread.{rises, span_end}

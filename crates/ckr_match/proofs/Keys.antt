@@ -57,14 +57,6 @@ not_below_back a b p = ap is_lt (total.antisymm b a ∙ ap ordering_reverse (les
 pub below_is_other : (a b : List ℕ) → is_below a b ≡ true → pointwise nat_eq a b ≡ false
 below_is_other a b p = lists_ties nat_cmp unsigned_ties a b ∙ ap is_eq (less (slice_cmp nat_cmp a b) p)
 
-pub neither_is_same : (a b : List ℕ) → is_below a b ≡ false → is_below b a ≡ false → pointwise nat_eq a b ≡ true
-neither_is_same a b p q = lists_ties nat_cmp unsigned_ties a b ∙ by (slice_cmp nat_cmp a b) refl p
-  where
-    by : (r : Ordering) → slice_cmp nat_cmp a b ≡ r → is_lt r ≡ false → is_eq (slice_cmp nat_cmp a b) ≡ true
-    by Less e f = absurd (cc)
-    by Equal e f = ap is_eq e
-    by Greater e f = absurd (let g : is_below b a ≡ true = ap is_lt (total.antisymm b a ∙ ap ordering_reverse e) in let h : true ≡ false = sym g ∙ q in cc)
-
 -- what may stand before a record isn't above it
 pub before_is_low : (keys : Keys) (x y : Taken) → may_follow keys x y ≡ true → stands_below keys y x ≡ false
 before_is_low keys x y p = by (not y.second && keys.strict) refl p

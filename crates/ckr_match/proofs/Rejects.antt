@@ -1,10 +1,9 @@
 -- Only a record of the second input is rejected.
-use Rattle.std.proofs.Common.{◌≡◌, ◌≤◌, ℕ, ◌==◌, Bool, true, false, cond, if◌then◌else◌, eqb, List, [], ◌∷◌, ◌++◌, map, drop, Option, Some, None, arith}
+use Rattle.std.proofs.Common.{◌≤◌, ℕ, Bool, true, false, cond, if◌then◌else◌, eqb, List, [], ◌∷◌, ◌++◌, map, Option, Some, None, arith}
 use Rattle.ckr_base.specs.declared.code.Code.TheVariants.{User}
 use Rattle.ckr_base.specs.declared.programs.Finish.TheVariants.{Abend}
 use Rattle.ckr_base.specs.declared.programs.Output.TheVariants.{Rejects}
 use Rattle.ckr_base.specs.declared.programs.UnitDone.{UnitDone}
-use Rattle.ckr_base.specs.declared.programs.Write.{Write}
 use Rattle.ckr_jcl.specs.declared.deck.Kind.{Kind}
 use Rattle.ckr_jcl.specs.declared.deck.Kind.TheVariants.{Copy, Select, Merge, Master, Update, Print, Br14}
 use Rattle.ckr_jcl.specs.declared.deck.Parm.{Parm}

@@ -5,6 +5,7 @@ pub mod Lengths
 pub mod OtherNames
 pub mod Remainders
 pub mod WriteSeries
+pub mod StepDependence
 pub mod NameDependence
 pub mod JobEnds
 pub mod Room

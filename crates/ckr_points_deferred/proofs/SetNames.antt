@@ -1,6 +1,4 @@
 -- No data set of a library has an empty name.
--- none-unnamed           nothing stands under it, by the first name
--- none-first             nor where there is no name
 -- none-seen-unnamed      nor in the tables
 use Rattle.std.proofs.Common.{◌≡◌, [], refl, ap, sym, ◌∙◌, Option, Some, None}
 use Rattle.std.specs.Option.{option_map}
@@ -10,7 +8,6 @@ use Rattle.ckr_library.specs.NameMaps.{Named, entry_at}
 use Rattle.ckr_library.proofs.Named.{at-viewed}
 use Rattle.ckr_points.specs.Rows.{TableSet, holding_of}
 use Rattle.ckr_points_tables.specs.View.{seen_by}
-use Rattle.ckr_points_tables.proofs.UnnamedSets.{none-unnamed, none-first}
 
 pub none-seen-unnamed : (sets : Named Holding) (tables : Named TableSet) → sets ≡ seen_by holding_of tables → entry_at sets [] ≡ None → entry_at tables [] ≡ None
 none-seen-unnamed sets tables is none = by (entry_at tables []) (sym (at-viewed holding_of tables []) ∙ ap (λ all. entry_at all []) (sym is) ∙ none)

@@ -6,8 +6,8 @@ use Rattle.ckr_jcl.specs.declared.deck.Dd.{Dd}
 use Rattle.ckr_jcl.specs.declared.deck.Status.{Status}
 use Rattle.ckr_jcl.specs.declared.deck.Status.TheVariants.{New, Old, Shr, Mod}
 use Rattle.ckr_library.specs.declared.sets.Stamp.{Stamp}
-use Rattle.ckr_library.specs.Catalog.{Holding, with_stamp}
-use Rattle.ckr_library.specs.NameMaps.{Name, Named, entry_at, with_changed}
+use Rattle.ckr_library.specs.Catalog.{Holding}
+use Rattle.ckr_library.specs.NameMaps.{Name, Named, entry_at}
 use Rattle.ckr_library.proofs.Named.{at-with_changed-keeps}
 use Rattle.ckr_entry.specs.declared.point.Passed.{Passed}
 use Rattle.ckr_meaning.specs.LibrarySet.{Known}
@@ -71,13 +71,6 @@ module _ (passed : List Passed) (stamp : Stamp) (root : ℕ) (owned : OwnedStep)
   -- by what stood before the step
   pub opened-in_turn : (dds : List Dd) (sets : Named Holding) → in_turn dds sets ≡ opened_all holding_ways stamp (placed_from holding_ways (standing sets passed) root owned 1 dds) sets
   opened-in_turn dds sets = from_alike sets 1 dds sets (record { known = λ name. refl })
-
--- what isn't OLD stays as it is
-pub opened_as_it_is : (name : Name) (stamp : Stamp) (status : Status) (sets : Named Holding) → (status ≡ Old → ⊥) → with_changed name (with_stamp stamp) sets ≡ with_changed name (opened_by holding_ways stamp status) sets
-opened_as_it_is name stamp New sets other = refl
-opened_as_it_is name stamp Old sets other = absurd (other refl)
-opened_as_it_is name stamp Shr sets other = refl
-opened_as_it_is name stamp Mod sets other = refl
 
 -- a data set that is found is there
 pub found_there : (dd : Dd) (passed : Bool) (known : Option Known) → allotment_of dd passed known ≡ found → IsSome known

@@ -28,13 +28,14 @@ use Rattle.ckr_points_tables.specs.RunChange.{Going, Kit, going, by_step_of, cha
 use Rattle.ckr_points_tables.specs.StepEnd.{disposals_at}
 use Rattle.ckr_meaning.specs.StepRun.{rewritten_stamp}
 use Rattle.ckr_points.specs.Tables.{is_checkpoints, is_updates, kept_entry, name_with_role, parts_from}
-use Rattle.ckr_points_tables.specs.NewSets.{fresh_set, has_items, made_from, made_named}
+use Rattle.ckr_points_tables.specs.NewSets.{has_items, made_from, made_named}
 use Rattle.ckr_points.specs.Marks.{mark_at, mark_now, marked_under, present_of, with_point, without_passed}
 use Rattle.ckr_points.specs.Restart.{step_in}
 use Rattle.ckr_points.specs.Rows.{KeptEntry, StartPoint, holding_of}
 use Rattle.ckr_points_tables.specs.RunJobs.{effective}
 use Rattle.ckr_points_tables.specs.RunMarks.{carried_by, mark_by, own_names_of, point_marks}
 use Rattle.ckr_points_tables.specs.View.{Writings, find_last, later_or, point_for, seen_by, table_in, table_of}
+use Rattle.ckr_points_library.specs.Allocation.{fresh_set}
 
 -- marks that are the same by name
 pub marked_same : (first second : Name → Mark) → ((name : Name) → first name ≡ second name) → (names : List Name) → marked_under first names ≡ marked_under second names

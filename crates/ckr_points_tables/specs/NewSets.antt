@@ -1,14 +1,14 @@
 -- What a step makes, by the items of its event.
-use Rattle.std.specs.Prelude.{◌≡◌, ◌≤◌, ℕ, suc, ◌==◌, Bool, true, false, List, [], ◌∷◌, filter, length, unwrap_or, if◌then◌else◌, Option, None, Some}
+use Rattle.std.specs.Prelude.{◌≡◌, ◌≤◌, ℕ, suc, ◌==◌, Bool, true, List, [], ◌∷◌, filter, length, unwrap_or, if◌then◌else◌, Option, None, Some}
 use Rattle.std.specs.List.{list_any, AllByRecursion}
 use Rattle.ckr_events.specs.declared.event.Made.{Made}
 use Rattle.ckr_jcl.specs.declared.deck.Dd.{Dd}
 use Rattle.ckr_library.specs.declared.sets.DataSet.{DataSet}
-use Rattle.ckr_library.specs.declared.sets.Part.{Part}
 use Rattle.ckr_library.specs.declared.sets.Stamp.{Stamp}
 use Rattle.ckr_library.specs.NameMaps.{Name, Named, entry_at, with_entry}
-use Rattle.ckr_meaning.specs.Allotments.{content_for, space_for}
+use Rattle.ckr_meaning.specs.Allotments.{space_for}
 use Rattle.ckr_points.specs.Tables.{part_of, parts_from}
+use Rattle.ckr_points_library.specs.Allocation.{fresh_set}
 
 -- whether the items make the data set of a DD
 abbrev pub has_items : ℕ → List Made → Bool
@@ -16,18 +16,6 @@ has_items number items = list_any (λ (item : Made). item.dd == number) items
 
 abbrev pub items_for : ℕ → List Made → List Made
 items_for number items = filter (λ (item : Made). item.dd == number) items
-
--- a data set as a DD makes it
-abbrev pub fresh_set : Stamp → Dd → List Part → DataSet
-fresh_set stamp dd parts = record {
-  parts = record { items = parts };
-  cataloged = false;
-  lrecl = dd.lrecl;
-  space = space_for dd;
-  length = 0;
-  stamp = stamp;
-  content = content_for dd.role;
-}
 
 -- the data sets with what the items make, DD by DD
 module _ {X : Type 0} (fresh : DataSet → X) (stamp : Stamp) (items : List Made) where

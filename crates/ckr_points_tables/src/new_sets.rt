@@ -7,7 +7,8 @@ ghost use Rattle.ckr_meaning.specs.Allotments.{content_for, parts_for, space_for
 ghost use Rattle.ckr_meaning.specs.EffectiveJob.{name_of};
 ghost use Rattle.ckr_points.specs.Tables.{part_of, parts_from};
 ghost use Rattle.ckr_points_tables.specs.RunJobs.{own_of};
-ghost use Rattle.ckr_points_tables.specs.NewSets.{fresh_set, has_items, items_for, made_from, made_named, made_one, HasRecords, MayMake, MayMakeAll, MayMakeNamed};
+ghost use Rattle.ckr_points_tables.specs.NewSets.{has_items, items_for, made_from, made_named, made_one, HasRecords, MayMake, MayMakeAll, MayMakeNamed};
+ghost use Rattle.ckr_points_library.specs.Allocation.{fresh_set};
 
 use crate::OwnStep;
 use arrayvec::ArrayVec;

@@ -22,7 +22,7 @@ use Rattle.ckr_match.specs.Images.{same_key, code_of}
 use Rattle.ckr_match.specs.Master.{Balance, write_to, write_held, group_writes, master_writes, balance_of, groups_of}
 use Rattle.ckr_match.specs.State.{has_two_inputs}
 use Rattle.ckr_match.specs.InputOrder.{Taken, Keys, taken_from, of_first, of_second}
-use Rattle.ckr_match.specs.Work.{MatchCase, match_writes, update_write, write_at, case_keys}
+use Rattle.ckr_match.specs.Work.{match_writes, update_write, write_at, case_keys}
 use Rattle.ckr_match.specs.Work as matched
 use Rattle.ckr_match.specs.Units as matched_units
 use Rattle.ckr_match.proofs.Walk.{Reached, goes_on, ended, stuck, reached}

@@ -28,7 +28,6 @@ use Rattle.ckr_match.specs.Images.{keys_of}
 use Rattle.ckr_match.specs.State.{has_two_inputs, return_code}
 use Rattle.ckr_match.specs.declared.steps.RecordStep.{RecordStep}
 use Rattle.ckr_match.specs.InputOrder.{Taken, chosen, of_first, of_second}
-use Rattle.ckr_match.specs.Work.{MatchCase}
 use Rattle.ckr_match.specs.Work as matched
 use Rattle.ckr_match.specs.Units as matched_units
 use Rattle.ckr_match.specs.Steps as matched_steps

@@ -10,10 +10,10 @@ use Rattle.ckr_library.specs.NameMaps.{Name, same_name, entry_at, with_changed}
 use Rattle.ckr_library.proofs.Named.{at-with_changed-other, name-same, name-turned}
 use Rattle.ckr_volumes.specs.declared.layout.Layout.{Layout}
 use Rattle.ckr_volumes.specs.Records.{records_on}
-use Rattle.ckr_volumes.specs.SamePlaces.{SamePlaces, same_places}
+use Rattle.ckr_volumes.specs.SamePlaces.{SamePlaces}
 use Rattle.ckr_volumes.specs.Layouts.{lie_apart, StandsIn}
 use Rattle.ckr_meaning.specs.EffectiveJob.{is_among}
-use Rattle.ckr_meaning.specs.LibrarySet.{LibrarySet, Library}
+use Rattle.ckr_meaning.specs.LibrarySet.{LibrarySet}
 use Rattle.ckr_meaning.specs.Program.{fitting, rest, upto}
 use Rattle.ckr_meaning.specs.StepRun.{StepStart, case_at, input_names, made_at, within_at, work_at, set_name, output_dd, output_name, rewritten, written_set, changed_in, written_one, written_all}
 use Rattle.ckr_meaning.proofs.WriteSeries.{written_all-append}
@@ -21,7 +21,7 @@ use Rattle.ckr_meaning.proofs.Prefixes.{work_in_parts}
 use Rattle.ckr_steps.specs.declared.step_run.StepRun.{StepRun}
 use Rattle.ckr_steps.specs.Files.{files_of}
 use Rattle.ckr_steps.specs.Inputs.{AreStored}
-use Rattle.ckr_steps.specs.Writes.{room_of, IsShown, ShowsSet, Shows}
+use Rattle.ckr_steps.specs.Writes.{room_of, IsShown, ShowsSet}
 use Rattle.ckr_steps.specs.Places.{names_at, ShowsWithin, IsToRewrite}
 use Rattle.ckr_steps.proofs.UnitProgress.{so_far_written}
 use Rattle.ckr_steps.proofs.NextHeads.{source_named, set_found}
@@ -33,22 +33,6 @@ use Rattle.ckr_steps.proofs.LaterWrites.{written_from, within_front}
 -- the library has the same data sets in the same places, whatever it says of their marks and stamps
 pub record HasSamePlaces (old new : Catalog) : Type 0 where
   pub each : (name : Name) (set : DataSet) → set_of old name ≡ Some set → (now : DataSet) × (set_of new name ≡ Some now) × SamePlaces set now × (now.space ≡ set.space) × (now.length ≡ set.length)
-
--- what is shown by one library is shown by the other
-pub shown_in_same_places : (told : Type 0) (image : List ℕ) (layout : Layout) (names : List Name) (model : Library) (old new : Catalog) → HasSamePlaces old new → Shows told image layout names model old → Shows told image layout names model new
-shown_in_same_places told image layout names model old new same shows name set among is plain =
-    let shown = shows name set among is plain in
-    let now = same.each name shown.set shown.is in
-    record {
-      set = now.0;
-      is = now.1;
-      shows = record {
-        lrecl = now.2.lrecl ∙ shown.shows.lrecl;
-        space = now.3 ∙ shown.shows.space;
-        length = now.4 ∙ shown.shows.length;
-        records = λ is_told. same_places image layout shown.set now.0 now.2 now.0.length ∙ ap (records_on image layout shown.set) now.4 ∙ shown.shows.records is_told;
-      };
-    }
 
 module _ (told : Type 0) (image later : List ℕ) (layout : Layout) (start : StepStart) (before taken place : ℕ) (bytes : List ℕ) (old new : StepRun) (library : Catalog)
     (rewrite : IsToRewrite told image layout start before taken place bytes old new library) where

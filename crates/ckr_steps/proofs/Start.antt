@@ -32,7 +32,6 @@ use Rattle.ckr_meaning.specs.StepRun.{StepStart, case_at, made_at, dd_named, inp
 use Rattle.ckr_meaning.proofs.Prefixes.{work_in_parts}
 use Rattle.ckr_meaning.proofs.Room.{AreApart}
 use Rattle.ckr_meaning.proofs.Units.{write_all, write_the_rest}
-use Rattle.ckr_meaning.proofs.WriteSeries.{within_at-none}
 use Rattle.ckr_steps.specs.declared.files.RecordSource.{RecordSource}
 use Rattle.ckr_steps.specs.declared.files.RecordSource.TheVariants.{Nowhere, InDeck, InSet}
 use Rattle.ckr_steps.specs.declared.step_run.StepRun.{StepRun}
@@ -211,10 +210,6 @@ shows_made told image layout start library shows = shows-sets told image layout 
 
 pub shows-within : (told : Type 0) (image : List ℕ) (layout : Layout) (start : StepStart) (writes : ℕ) (library : Catalog) → ShowsWithin told image layout start writes library → HasWithin layout start writes library
 shows-within told image layout start writes library shows = shows-sets told image layout (names_at start) (within_at start writes) library shows
-
--- the data sets as they are made are those behind no write
-pub made-within : (layout : Layout) (start : StepStart) (library : Catalog) → HasMade layout start library → HasWithin layout start 0 library
-made-within layout start library made = subst (λ sets. Shows ⊥ [] layout (names_at start) sets library) (sym (within_at-none start)) made
 
 -- ---- what is due, and what is done at a count
 

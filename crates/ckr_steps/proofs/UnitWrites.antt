@@ -58,15 +58,6 @@ grown_first files old new first fits there more is =
 pub left_first : (fits : Bool) (found : Option OutputRoom) (left : OutputRoom) → fits ≡ true → (IsTrue fits → found ≡ Some left) → found ≡ Some left
 left_first fits found left more is = is more
 
--- where there is a rewrite, nothing is done
-pub done_none : (catalog : Catalog) (files : Files) (writes : List Write) (rewrites : Bool) → rewrites ≡ is_some (rewrite_of catalog files writes) → rewrites ≡ true → [] ≡ done_of catalog files writes
-unfolding done_of
-done_none catalog files writes rewrites is made = by (rewrite_of catalog files writes) (sym is ∙ made)
-  where
-    by : (rewrite : Option (ℕ × List ℕ)) → is_some rewrite ≡ true → [] ≡ done_unless rewrite (fitting writes (room_of catalog files))
-    by None made = absurd (false≢true made)
-    by (Some rewrite) made = refl
-
 -- where there is none, what fits is done
 pub done_all : (catalog : Catalog) (files : Files) (writes : List Write) → rewrite_of catalog files writes ≡ None → done_of catalog files writes ≡ fitting writes (room_of catalog files)
 unfolding done_of

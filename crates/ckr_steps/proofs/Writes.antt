@@ -29,7 +29,7 @@ use Rattle.ckr_match.specs.Images.{has_transactions, keys_of, key_in, same_bytes
 use Rattle.ckr_match.specs.Master.{write_to, write_held, reject_if, outcome_of}
 use Rattle.ckr_match.specs.State.{has_two_inputs}
 use Rattle.ckr_match.specs.InputOrder.{Taken, Keys, chosen, of_first}
-use Rattle.ckr_match.specs.Work.{MatchCase, match_writes, write_at}
+use Rattle.ckr_match.specs.Work.{match_writes, write_at}
 use Rattle.ckr_match.specs.Work as matched
 use Rattle.ckr_match.specs.Units as matched_units
 use Rattle.ckr_match.specs.Steps as matched_steps

@@ -1,9 +1,8 @@
 -- Names that stand once, one more at a time.
-use Rattle.std.proofs.Common.{◌≡◌, ◌<◌, ◌+◌, ℕ, Bool, true, false, ◌||◌, not, List, [], ◌∷◌, ◌++◌, length, take, get_or, filter, map, flat_map, refl, ap, sym, ◌∙◌, subst, cond, append_assoc, append-nil}
+use Rattle.std.proofs.Common.{◌≡◌, ◌<◌, ◌+◌, ℕ, Bool, true, false, ◌||◌, not, List, [], ◌∷◌, ◌++◌, length, take, get_or, filter, map, refl, ap, sym, ◌∙◌, subst, cond, append_assoc, append-nil}
 use Rattle.std.specs.List.{list_any}
 use Rattle.std.proofs.lemmas.List.{take_more, map-append}
 use Rattle.std.proofs.lemmas.List.Elements.{filter-append}
-use Rattle.std.proofs.lemmas.Grind.{flat_map-append}
 use Rattle.ckr_library.specs.declared.uses.Use.{Use}
 use Rattle.ckr_library.specs.NameMaps.{Name, same_name}
 use Rattle.ckr_uses.specs.Uses.{names_once, names_in, use_among, is_of}
@@ -64,13 +63,6 @@ merged-new all uses place used h e new =
     ∙ map-append (use_among all) (names_once (names_in (take place uses))) (used.name ∷ [])
 
 -- ---- lists that grow by what each item gives
-
-pub flat_map-more : {X Y : Type 0} (f : X → List Y) (xs : List X) (place : ℕ) (x : X) → place < length xs → x ≡ get_or xs place x → flat_map f (take (place + 1) xs) ≡ flat_map f (take place xs) ++ f x
-flat_map-more {X} f xs place x h e =
-    ap (flat_map f) (take_more xs place x h)
-    ∙ flat_map-append f (take place xs) (get_or xs place x ∷ [])
-    ∙ ap (λ last. flat_map f (take place xs) ++ last) (append-nil (f (get_or xs place x)))
-    ∙ ap (λ (y : X). flat_map f (take place xs) ++ f y) (sym e)
 
 -- behind what stood there before
 pub behind : {X : Type 0} (before some more new all : List X) → new ≡ before ++ some ++ more → all ≡ some ++ more → new ≡ before ++ all

@@ -1,5 +1,5 @@
 -- The holes of a volume, and the space for a new part on it.
-use Rattle.std.specs.Prelude.{ℕ, Bool, ◌&&◌, ◌||◌, ◌+◌, ◌-◌, ◌/◌, ◌==◌, nat_le, nat_lt, max, if◌then◌else◌, List, [], ◌∷◌, ◌++◌, Option, Some, None, find, Result, Ok, Err}
+use Rattle.std.specs.Prelude.{ℕ, Bool, ◌&&◌, ◌+◌, ◌-◌, ◌/◌, ◌==◌, nat_le, nat_lt, max, if◌then◌else◌, List, [], ◌∷◌, ◌++◌, Option, Some, None, find, Result, Ok, Err}
 use Rattle.std.specs.List.{list_all}
 use Rattle.ckr_library.specs.declared.sets.Extent.{Extent}
 use Rattle.ckr_library.specs.declared.spread.Span.{Span}

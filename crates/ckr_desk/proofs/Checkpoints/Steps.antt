@@ -25,7 +25,7 @@ use Rattle.ckr_points.specs.declared.reply.Chkpt.{Chkpt}
 use Rattle.ckr_points.specs.declared.reply.Reply.{Reply}
 use Rattle.ckr_points.specs.declared.reply.Reply.TheVariants.{Checkpointed, Idle}
 use Rattle.ckr_desk_turn.specs.Turns.{IsMountedTurnOf, MountedTurn, plan_for, turn_of}
-use Rattle.ckr_desk_turn.specs.Desk.{DeskModel, TurnDone, done_by, progress_of, start_of}
+use Rattle.ckr_desk_turn.specs.Desk.{DeskModel, TurnDone, done_by, progress_of}
 use Rattle.ckr_desk_turn.specs.Taken.{served_by, taken_of}
 use Rattle.ckr_desk_turn.specs.Units.{StepProgress}
 use Rattle.ckr_volumes.specs.declared.layout.Layout.{Layout}
@@ -34,6 +34,7 @@ use Rattle.ckr_desk.specs.Checkpoint.{IsReplyWith}
 use Rattle.ckr_desk.specs.Soundness.{IsTrusted, office_on, state_of}
 use Rattle.ckr_desk.specs.State.{DeskView}
 use Rattle.ckr_desk.specs.Turn.{asks}
+use Rattle.ckr_points.specs.Payload.{start_in_office}
 
 -- the operator isn't asked for a checkpoint
 module _ (run : ℕ) (desk : DeskModel) where
@@ -54,9 +55,9 @@ module _ (run : ℕ) (desk : DeskModel) where
   start-quiet row None = refl
   start-quiet row (Some start) = progress-quiet row start (progress_of desk run)
 
-  row-quiet : (row : Option RunRow) → (option_map_or (λ row. by_start row (start_of desk.office row)) row none_done).asked ≡ false
+  row-quiet : (row : Option RunRow) → (option_map_or (λ row. by_start row (start_in_office desk.office row)) row none_done).asked ≡ false
   row-quiet None = refl
-  row-quiet (Some row) = start-quiet row (start_of desk.office row)
+  row-quiet (Some row) = start-quiet row (start_in_office desk.office row)
 
   taken-quiet : (taken_of run desk).asked ≡ false
   taken-quiet = row-quiet (run_of desk.office.tables run)

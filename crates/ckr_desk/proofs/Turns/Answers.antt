@@ -18,11 +18,12 @@ use Rattle.ckr_desk.specs.Turn.{AnswerStands, AnswerStandsBy, asks, room_behind_
 use Rattle.ckr_desk_turn.specs.Turns.{IsMountedTurnOf, MountedTurn, plan_for}
 use Rattle.ckr_points.specs.declared.reply.Reply.{Reply}
 use Rattle.ckr_desk_turn.specs.declared.plan.Plan.TheVariants.{Pass, Take}
-use Rattle.ckr_desk_turn.specs.Desk.{DeskModel, TurnDone, progress_of, start_of}
+use Rattle.ckr_desk_turn.specs.Desk.{DeskModel, TurnDone, progress_of}
 use Rattle.ckr_desk_turn.specs.Taken.{taken_of}
 use Rattle.ckr_points.specs.Rows.{run_of}
 use Rattle.ckr_desk_refines.specs.Memory.View.{jobs_of}
 use Rattle.ckr_desk.proofs.Turns.Events.{turned}
+use Rattle.ckr_points.specs.Payload.{start_in_office}
 
 -- the answer to a question on a restart is that of the operator in office
 pub answer-so : (job : ℕ) (step : Name) (id : Option Name) (operator : Option Answering) → answer_in_office (Restart job step id) operator ≡ restart_answer operator
@@ -83,7 +84,7 @@ either-quiet (Some x) f none first second = second x
 taken-quiet : (run : ℕ) (desk : DeskModel) → (taken_of run desk).asked ≡ false
 taken-quiet run desk =
     either-quiet (run_of desk.office.tables run) _ _ refl
-    (λ row. either-quiet (start_of desk.office row) _ _ refl (λ start. either-quiet (progress_of desk run) _ _ refl (λ progress. refl)))
+    (λ row. either-quiet (start_in_office desk.office row) _ _ refl (λ start. either-quiet (progress_of desk run) _ _ refl (λ progress. refl)))
 
 module _ {D : Type 0} (told : Type 0) (content : D → List ℕ) (may_leave : D → List ℕ → Type 0) (size : D → ℕ)
     (old : DeskView D) (trusted : IsTrusted told content may_leave old) (turn : MountedTurn) (its : IsMountedTurnOf old.store.layout turn) (answer : Answer) where

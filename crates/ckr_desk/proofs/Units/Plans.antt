@@ -16,9 +16,10 @@ use Rattle.ckr_desk_turn.specs.Codes.{CodePlaceModel, inquiry_of}
 use Rattle.ckr_desk_turn.specs.Inquiries.{decided}
 use Rattle.ckr_desk_turn.specs.declared.plan.Plan.{Plan}
 use Rattle.ckr_desk_turn.specs.declared.plan.Plan.TheVariants.{Rest, Tell, Work, Pass, Take, Ask, Wait}
-use Rattle.ckr_desk_turn.specs.Desk.{DeskModel, TurnDone, done_by, progress_of, start_of, with_progress, work_of}
+use Rattle.ckr_desk_turn.specs.Desk.{DeskModel, TurnDone, done_by, progress_of, with_progress, work_of}
 use Rattle.ckr_desk_turn.specs.Units.{unit_end}
 use Rattle.ckr_desk_turn.specs.Spelling.{IsSpelled}
+use Rattle.ckr_points.specs.Payload.{start_in_office}
 
 -- what is said of a plan with an event is said of the event
 pub spelled-in : (plan : Plan) → IsSpelledPlan plan → (event : Event) → event_in plan ≡ Some event → IsSpelled event
@@ -44,7 +45,7 @@ either-office office (Some x) f none first second = second x
 pub work-office : (answer : Answer) (run : ℕ) (desk : DeskModel) → (work_of answer run desk).event ≡ None → (work_of answer run desk).desk.office ≡ desk.office
 work-office answer run desk =
     either-office desk.office (run_of desk.office.tables run) _ _ (λ none. refl)
-    (λ row. either-office desk.office (start_of desk.office row) _ _ (λ none. refl)
+    (λ row. either-office desk.office (start_in_office desk.office row) _ _ (λ none. refl)
     (λ start. either-office desk.office (progress_of desk run) _ _ (λ none. refl)
     (λ progress. plan-office _ (with_progress row.number (unit_end start progress).progress desk))))
 

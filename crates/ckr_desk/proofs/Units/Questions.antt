@@ -33,7 +33,7 @@ use Rattle.ckr_desk_turn.specs.declared.plan.Plan.{Plan}
 use Rattle.ckr_desk_turn.specs.declared.plan.Plan.TheVariants.{Rest, Work}
 use Rattle.ckr_points.specs.declared.reply.Reply.{Reply}
 use Rattle.ckr_desk_turn.specs.Turns.{MountedTurn, plan_for}
-use Rattle.ckr_desk_turn.specs.Desk.{DeskModel, TurnDone, progress_of, start_of, unit_done, with_progress, work_of, seen, jobs_of as jobs_of_desk}
+use Rattle.ckr_desk_turn.specs.Desk.{DeskModel, TurnDone, progress_of, unit_done, with_progress, work_of, seen, jobs_of as jobs_of_desk}
 use Rattle.ckr_desk_turn.specs.Inquiries.{decide, is_ask}
 use Rattle.ckr_desk_turn.specs.Jobs.{TurnStep, effect_entry}
 use Rattle.ckr_desk_turn.specs.Units.{UnitEnd, UnitOutcome, abended, unit_end, unit_plan, went}
@@ -44,6 +44,7 @@ use Rattle.ckr_desk.specs.Soundness.{IsTrusted, office_on, state_of}
 use Rattle.ckr_desk.specs.State.{DeskView}
 use Rattle.ckr_desk.specs.Turn.{asks}
 use Rattle.ckr_desk.specs.Units.{IsAt, IsToldOf}
+use Rattle.ckr_points.specs.Payload.{start_in_office}
 
 abbrev is_restarted : Event → Bool
 is_restarted (Restarted job initiator code checkpoint) = true
@@ -85,7 +86,7 @@ unit-asked answer row end desk event is =
 work-asked : (answer : Answer) (run : ℕ) (desk : DeskModel) → AsksByEvent (work_of Yes run desk) (work_of answer run desk)
 work-asked answer run desk =
     either-asks (run_of desk.office.tables run) _ _ _ _ (λ event is. absurd (some-not-none event (sym is)))
-    (λ row. either-asks (start_of desk.office row) _ _ _ _ (λ event is. absurd (some-not-none event (sym is)))
+    (λ row. either-asks (start_in_office desk.office row) _ _ _ _ (λ event is. absurd (some-not-none event (sym is)))
     (λ start. either-asks (progress_of desk run) _ _ _ _ (λ event is. absurd (some-not-none event (sym is)))
     (λ progress. unit-asked answer row (unit_end start progress) desk)))
 

@@ -33,7 +33,7 @@ use Rattle.ckr_desk_turn.proofs.NextEvents.WithinStep.{by-step}
 use Rattle.ckr_desk_turn.proofs.Opening.{has-runs}
 use Rattle.ckr_desk_turn.proofs.RunningSteps.{going-within}
 use Rattle.ckr_desk_turn.specs.Checkpoints.{check_set, checkpoint_fits, entry_bytes, entry_place, fits_in, lengths_with, next_id, written_event}
-use Rattle.ckr_desk_turn.specs.Desk.{DeskModel, DeskStep, TurnDone, checkpoint_done, start_of, without_run}
+use Rattle.ckr_desk_turn.specs.Desk.{DeskModel, DeskStep, TurnDone, checkpoint_done, without_run}
 use Rattle.ckr_desk_turn.specs.Invariant.{IsDesk, IsGoing}
 use Rattle.ckr_desk_turn.specs.Taken.{taken_of}
 use Rattle.ckr_desk_refines.specs.Checkpoints.{IsStepOf, IsToTake, IsWrittenBehind}
@@ -90,7 +90,7 @@ module _ (layout : Layout) (old : JobsView) (before : List ℕ) (desk : DeskMode
     start_is =
         let mine : IsStepOf desk.office run p.going.row p.going.start = its-step layout old before desk turn run on to in
         let row_is : behind.row ≡ p.going.row = same_Some behind.row p.going.row (sym behind.of.row_at ∙ mine.row_at) in
-        same_Some behind.start p.going.start (sym behind.of.start_at ∙ ap (start_of desk.office) row_is ∙ mine.start_at)
+        same_Some behind.start p.going.start (sym behind.of.start_at ∙ ap (start_in_office desk.office) row_is ∙ mine.start_at)
 
     pub check_is : check_set p.going.start ≡ Some behind.name
     check_is = ap check_set (sym start_is) ∙ behind.is

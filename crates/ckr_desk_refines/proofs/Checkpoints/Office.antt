@@ -13,7 +13,7 @@ use Rattle.ckr_meaning.specs.StepRun.{StepStart, within_at}
 use Rattle.ckr_points_library.specs.Commit.{output_names}
 use Rattle.ckr_points.specs.Follows.{is_length_of}
 use Rattle.ckr_points.specs.Office.{Office}
-use Rattle.ckr_points.specs.Payload.{length_now}
+use Rattle.ckr_points.specs.Payload.{length_now, start_in_office}
 use Rattle.ckr_points.specs.Rows.{RunRow, TableSet, run_of}
 use Rattle.ckr_points.specs.Tables.{committed, is_checkpoints, name_with_role}
 use Rattle.ckr_points_invariant.proofs.Holders.Rows.{run-other}
@@ -22,7 +22,7 @@ use Rattle.ckr_uses.specs.Uses.{are_distinct}
 use Rattle.ckr_desk_memory.specs.EventChanges.{check_name}
 use Rattle.ckr_desk_turn.proofs.Checkpoints.Events.{behind-by, committed_now, may-come, next_row, row-now}
 use Rattle.ckr_desk_turn.specs.Checkpoints.{MayCheckpoint, checkpoint_fits, entry_bytes, entry_end, entry_place, is_check_set, lengths_with, next_id, office_behind}
-use Rattle.ckr_desk_turn.specs.Desk.{DeskModel, DeskStep, start_of}
+use Rattle.ckr_desk_turn.specs.Desk.{DeskModel, DeskStep}
 use Rattle.ckr_desk_turn.specs.Invariant.{IsDesk, IsGoing}
 use Rattle.ckr_desk_refines.specs.SharedSets.{LeavesOthers, LieStill}
 use Rattle.ckr_desk_refines.proofs.Durable.Checkpoint.{entered-set}
@@ -80,9 +80,9 @@ module _ (desk : DeskModel) (is : IsDesk desk) (step : DeskStep) (going : IsGoin
 
   -- ---- its run
 
-  pub row-then : (row : RunRow) × (run_of office_then.tables step.run ≡ Some row) × (start_of desk.office row ≡ Some going.start) × (check_name row ≡ check_name going.row)
+  pub row-then : (row : RunRow) × (run_of office_then.tables step.run ≡ Some row) × (start_in_office desk.office row ≡ Some going.start) × (check_name row ≡ check_name going.row)
   row-then =
-      behind-by desk.layout desk.office step may (λ tables. (row : RunRow) × (run_of tables step.run ≡ Some row) × (start_of desk.office row ≡ Some going.start) × (check_name row ≡ check_name going.row))
+      behind-by desk.layout desk.office step may (λ tables. (row : RunRow) × (run_of tables step.run ≡ Some row) × (start_in_office desk.office row ≡ Some going.start) × (check_name row ≡ check_name going.row))
       (λ leg owned same job. (next_row desk.layout desk.office step may owned, row-now desk.layout desk.office step may owned, going.start_at, refl))
 
   -- ---- data sets

@@ -19,12 +19,13 @@ use Rattle.ckr_desk_memory.specs.View.{PointView, RunningStepView}
 use Rattle.ckr_desk_memory.proofs.Points.{other-point, own-with}
 use Rattle.ckr_desk_turn.proofs.Checkpoints.Events.{behind-by, check-named, kept-so, next_row, row-now, check-dd}
 use Rattle.ckr_desk_turn.specs.Checkpoints.{check_set, checkpoint_fits, entry_with, next_id, written_entry}
-use Rattle.ckr_desk_turn.specs.Desk.{DeskModel, DeskStep, checkpoint_done, start_of}
+use Rattle.ckr_desk_turn.specs.Desk.{DeskModel, DeskStep, checkpoint_done}
 use Rattle.ckr_desk_turn.specs.Invariant.{IsDesk, IsGoing}
 use Rattle.ckr_desk_turn.specs.Jobs.{effect_entry}
 use Rattle.ckr_desk_refines.specs.Standing.{OwnStands, PointsStand, StandsForStep}
 use Rattle.ckr_desk_refines.proofs.Checkpoints.Office.{leaves, leaves-others, may, office_then}
 use Rattle.ckr_desk_refines.proofs.Standing.Points.{entry_in_effect, points-next}
+use Rattle.ckr_points.specs.Payload.{start_in_office}
 
 -- the entry of which a whole entry is made tells its records taken and its writes
 told-by : (made : Entry) (kept : Option KeptEntry) (entry : KeptEntry) → option_map (λ (entry : KeptEntry). entry_with entry.kept.id made.state entry.point) kept ≡ Some made → kept ≡ Some entry → (entry.point.taken ≡ made.taken) × (entry.point.writes ≡ made.writes)
@@ -49,7 +50,7 @@ module _ (desk : DeskModel) (is : IsDesk desk) (step : DeskStep) (going : IsGoin
     got : row.in_effect ≡ Some effect
     set : effect.set ≡ check
     id : effect.kept.id ≡ next_id going.row going.start
-    starts : start_of desk.office row ≡ Some going.start
+    starts : start_in_office desk.office row ≡ Some going.start
 
   has-now : HasNow later.tables
   has-now =
@@ -75,10 +76,10 @@ module _ (desk : DeskModel) (is : IsDesk desk) (step : DeskStep) (going : IsGoin
       (ap (λ (set : Name). kept_at later.tables.sets set (next_id going.row going.start)) (sym has-now.set) ∙ ap (kept_at later.tables.sets has-now.effect.set) (sym has-now.id)
       ∙ ap (entry_in_effect later.tables) (sym has-now.got ∙ ap (λ (r : RunRow). r.in_effect) same) ∙ found)
 
-  start-now : (row : RunRow) (start : StepStart) → run_of later.tables step.run ≡ Some row → start_of later row ≡ Some start → start ≡ going.start
+  start-now : (row : RunRow) (start : StepStart) → run_of later.tables step.run ≡ Some row → start_in_office later row ≡ Some start → start ≡ going.start
   start-now row start at starts =
       let same : has-now.row ≡ row = some-one has-now.row row (run_of later.tables step.run) has-now.row_at at in
-      same_Some start going.start (sym starts ∙ ap (start_of desk.office) (sym same) ∙ has-now.starts)
+      same_Some start going.start (sym starts ∙ ap (start_in_office desk.office) (sym same) ∙ has-now.starts)
 
   module _ (image : List ℕ) (first : RunningStepView) (rest running : List RunningStepView) (run : ℕ) (same_run : step.run ≡ run) (stands : StandsForStep desk.layout later image first (record { run = run; progress = checkpoint_done step.progress; code = None }))
       (uncancelled : step.progress.cancelled ≡ false) (is_first : running ≡ first ∷ rest) (points : List PointView) (stand : PointsStand desk.office points) where
@@ -88,7 +89,7 @@ module _ (desk : DeskModel) (is : IsDesk desk) (step : DeskStep) (going : IsGoin
     own-points : OwnStands later (with_point run running points) step.run
     own-points row entry start at runs found starts =
         let told = entry-now row entry at found in
-        let its : stands.start ≡ start = same_Some stands.start start (sym stands.start_at ∙ ap (start_of later) (some-one stands.row row (run_of later.tables run) stands.row_at (ap (run_of later.tables) (sym same_run) ∙ at)) ∙ starts) in
+        let its : stands.start ≡ start = same_Some stands.start start (sym stands.start_at ∙ ap (start_in_office later) (some-one stands.row row (run_of later.tables run) stands.row_at (ap (run_of later.tables) (sym same_run) ∙ at)) ∙ starts) in
         record {
           point = point_of first;
           found = ap (λ n. find (is_point_of n) (with_point run running points)) same_run ∙ own-with run running points first found-first;

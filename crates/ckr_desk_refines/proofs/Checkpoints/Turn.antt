@@ -18,7 +18,7 @@ use Rattle.ckr_desk_turn.proofs.Checkpoints.Plans.{takes}
 use Rattle.ckr_desk_turn.proofs.NextEvents.WithinStep.{by-step}
 use Rattle.ckr_desk_turn.proofs.RunningSteps.{going-within}
 use Rattle.ckr_desk_turn.specs.Checkpoints.{checkpoint_event, checkpoint_fits, checkpoint_try, checkpoint_unless}
-use Rattle.ckr_desk_turn.specs.Desk.{DeskModel, DeskStep, TurnDone, progress_of, progress_unless, start_of}
+use Rattle.ckr_desk_turn.specs.Desk.{DeskModel, DeskStep, TurnDone, progress_of, progress_unless}
 use Rattle.ckr_desk_turn.specs.Due.{next_due}
 use Rattle.ckr_desk_turn.specs.Invariant.{IsDesk}
 use Rattle.ckr_desk_turn.specs.Taken.{served_by, taken_of}
@@ -32,6 +32,7 @@ use Rattle.ckr_desk_refines.proofs.Units.DueUnits.{IsDue, due-there, has_finishe
 use Rattle.ckr_desk_refines.proofs.Units.OtherSteps.{same-start}
 use Rattle.ckr_desk_refines.proofs.Units.Plans.{WorksAt, asked_in, takes_in, works-at}
 use Rattle.ckr_desk_refines.proofs.Units.StepLists.{IsPair, pair-of}
+use Rattle.ckr_points.specs.Payload.{start_in_office}
 
 module _ (layout : Layout) (old : JobsView) (image : List ℕ) (desk : DeskModel) (turn : MountedTurn) (run : ℕ) (on : RunningStepView) (to : IsToTake layout old image desk turn run on) where
   abbrev pub its_desk : IsDesk desk
@@ -119,7 +120,7 @@ module _ (layout : Layout) (old : JobsView) (image : List ℕ) (desk : DeskModel
   pub found-same : {X : Type 0} (f : RunRow → StepStart → StepProgress → X) (other : RunRow) (begun : StepStart) (progress : StepProgress) → IsStepOf desk.office run other begun → progress_of desk run ≡ Some progress → f other begun progress ≡ f row start pair.step.progress
   found-same f other begun progress of at =
       let row_is : other ≡ row = same_Some other row (sym of.row_at ∙ its-step.row_at) in
-      let start_is : begun ≡ start = same_Some begun start (sym of.start_at ∙ ap (start_of desk.office) row_is ∙ its-step.start_at) in
+      let start_is : begun ≡ start = same_Some begun start (sym of.start_at ∙ ap (start_in_office desk.office) row_is ∙ its-step.start_at) in
       ap (λ (r : RunRow). f r begun progress) row_is ∙ ap (λ (s : StepStart). f row s progress) start_is ∙ ap (f row start) (same_Some progress pair.step.progress (sym at ∙ known))
 
   pub found-fits : (other : RunRow) (begun : StepStart) (progress : StepProgress) → IsStepOf desk.office run other begun → progress_of desk run ≡ Some progress → checkpoint_fits desk.office.tables.sets other begun progress ≡ checkpoint_fits desk.office.tables.sets row start pair.step.progress

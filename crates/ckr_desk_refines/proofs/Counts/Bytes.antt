@@ -9,10 +9,10 @@ use Rattle.arrayvec.specs.ArrayVec.{ArrayVec}
 use Rattle.ckr_events.specs.declared.event.Event.{Event}
 use Rattle.ckr_events.specs.declared.event.Event.TheVariants.{Cancelled, Checkpointed, Denied, Ended, Held, Purged, Released, Restarted, Rewritten, Selected, Started, StepEnded, Submitted}
 use Rattle.ckr_events.specs.declared.event.Made.{Made}
-use Rattle.ckr_events.specs.Event.{at_offset, cancelled_at, checkpointed_at, denied_at, ended_at, event_of, fields_at, held_at, purged_at, released_at, restarted_at, rewritten_at, selected_at, started_at, step_ended_at, submitted_at, whole_at}
+use Rattle.ckr_events.specs.Event.{cancelled_at, checkpointed_at, denied_at, ended_at, event_of, fields_at, held_at, purged_at, released_at, restarted_at, rewritten_at, selected_at, started_at, step_ended_at, submitted_at, whole_at}
 use Rattle.ckr_events.specs.Format.{all_made, checkpointed, denied, ended, from_one, held, job, made_at, made_list_at, made_parts, piece_at, piece_list, piece_parts, pieces_at, restarted, rewritten, selected, started, step_ended, submitted}
 use Rattle.ckr_fields.specs.Fields.{between, both_at, byte, blocks_at, byte_at, bytes_at, four_bytes, items_at, judged, judged_at, number_at, seen_at, times_at}
-use Rattle.ckr_fields.specs.Readers.{Reading, ◌>>=◌}
+use Rattle.ckr_fields.specs.Readers.{Reading, ◌>>=◌, at_offset}
 use Rattle.ckr_fields.proofs.Steps.{bind_ok, guard_ok, ok_is, test_ok}
 use Rattle.ckr_desk_refines.specs.Counts.{added_by}
 

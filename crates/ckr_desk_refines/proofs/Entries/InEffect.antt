@@ -12,7 +12,7 @@ use Rattle.ckr_meaning.specs.Program.{ProgramCase, records_taken, upto}
 use Rattle.ckr_meaning.specs.States.{StandsFor}
 use Rattle.ckr_meaning.specs.StepRun.{StepStart, case_at}
 use Rattle.ckr_points.specs.Office.{Leg, Office, leg_of}
-use Rattle.ckr_points.specs.Payload.{carries_taken}
+use Rattle.ckr_points.specs.Payload.{carries_taken, start_in_office}
 use Rattle.ckr_points.specs.Restart.{kept_at}
 use Rattle.ckr_points.specs.Rows.{EffectPoint, KeptEntry, RunRow, TableSet, run_of}
 use Rattle.ckr_points_invariant.specs.Invariant.{IsHolder, IsKept, step_now}
@@ -21,7 +21,6 @@ use Rattle.ckr_points_invariant.proofs.Readiness.Runs.{kept-entry}
 use Rattle.ckr_points_invariant.proofs.Steps.Events.{led-by}
 use Rattle.ckr_steps.specs.Units.{AreServed, is_closed}
 use Rattle.ckr_volumes.specs.declared.layout.Layout.{Layout}
-use Rattle.ckr_desk_turn.specs.Desk.{start_of}
 use Rattle.ckr_desk_turn.specs.Jobs.{effect_entry}
 use Rattle.ckr_desk_turn.specs.EntryStates.{checkpoint_state}
 use Rattle.ckr_desk_refines.specs.Entries.{HasEntries, IsReadBack, IsReadInEffect, jobs_of}
@@ -31,7 +30,7 @@ use Rattle.ckr_desk_refines.proofs.Entries.Refusal.{kept-table, state-of}
 use Rattle.ckr_desk_refines.proofs.Entries.States.{state-served, state-stands, state-unclosed}
 
 module _ (layout : Layout) (office : Office) (image : List ℕ) (kept : IsKept layout office) (ready : AreReady office) (are : AreInEffect office) (has : HasEntries layout office image) where
-  module _ (number : ℕ) (row : RunRow) (entry : KeptEntry) (start : StepStart) (e : run_of office.tables number ≡ Some row) (got : effect_entry office.tables row ≡ Some entry) (starts : start_of office row ≡ Some start) where
+  module _ (number : ℕ) (row : RunRow) (entry : KeptEntry) (start : StepStart) (e : run_of office.tables number ≡ Some row) (got : effect_entry office.tables row ≡ Some entry) (starts : start_in_office office row ≡ Some start) where
     read-by : (effect : EffectPoint) → row.in_effect ≡ Some effect → kept_at office.tables.sets effect.set effect.kept.id ≡ Some entry → IsReadInEffect layout office image row entry start
     read-by effect is there =
         led-by layout office number row kept.events e its.holds

@@ -20,7 +20,7 @@ use Rattle.ckr_meaning.specs.EffectiveJob.{OwnedStep}
 use Rattle.ckr_meaning.specs.LibrarySet.{LibrarySet}
 use Rattle.ckr_meaning.specs.JobRun.{at}
 use Rattle.ckr_meaning.specs.StepRun.{StepStart, within_at}
-use Rattle.ckr_points.specs.Payload.{writes_in}
+use Rattle.ckr_points.specs.Payload.{writes_in, start_in_office}
 use Rattle.ckr_points.specs.Office.{Leg, Office}
 use Rattle.ckr_points.specs.Restart.{place_of}
 use Rattle.ckr_points.specs.Rows.{RunRow, TableSet}
@@ -33,7 +33,7 @@ use Rattle.ckr_desk_refines.specs.Moves.{HasSameRecords}
 use Rattle.ckr_desk_refines.specs.Standing.{AllStand, StandsForStep}
 use Rattle.ckr_desk_memory.specs.View.{RunningStepView}
 use Rattle.ckr_desk_turn.specs.Codes.{kept_reached, reached_by, running_reached}
-use Rattle.ckr_desk_turn.specs.Desk.{DeskModel, DeskStep, jobs_of, seen_from, start_of}
+use Rattle.ckr_desk_turn.specs.Desk.{DeskModel, DeskStep, jobs_of, seen_from}
 use Rattle.ckr_desk_turn.specs.Jobs.{TurnStep, as_stopped, running_in}
 use Rattle.ckr_volumes.specs.declared.layout.Layout.{Layout}
 use Rattle.ckr_volumes.specs.Records.{records_on}
@@ -73,7 +73,7 @@ place-within desk is run row number committed start within image had =
 pub stands-within : (layout : Layout) (office : Office) (image : List ℕ) (on : RunningStepView) (step : DeskStep) → StandsForStep layout office image on step → HasWithinRun layout office step.run step.progress.writes image
 stands-within layout office image on step stands row start row_at start_at =
     let mine : stands.row ≡ row = same_Some stands.row row (sym stands.row_at ∙ row_at) in
-    subst (λ (s : StepStart). HasWithin layout office.tables.sets s step.progress.writes image) (same_Some stands.start start (sym stands.start_at ∙ ap (start_of office) mine ∙ start_at))
+    subst (λ (s : StepStart). HasWithin layout office.tables.sets s step.progress.writes image) (same_Some stands.start start (sym stands.start_at ∙ ap (start_in_office office) mine ∙ start_at))
     (within-shown (Unit {0}) image layout office.tables.sets stands.start step.progress.writes on.sets tt stands.sets stands.shows)
 
 -- a step that has stopped has made its writes
@@ -99,7 +99,7 @@ module _ (desk : DeskModel) (is : IsDesk desk) (image : List ℕ) (seen : List R
       (sym (ap (λ (o : Option TurnStep). (option_map_or running_reached o (kept_reached (jobs_of desk) row)).writes) none ∙ ap writes_in within.place))
       (λ other its row_at start_at.
       let mine : row ≡ other = same_Some row other (sym within.row_at ∙ row_at) in
-      subst (λ (s : StepStart). HasWithin desk.layout desk.office.tables.sets s committed image) (same_Some start its (sym within.start_at ∙ ap (start_of desk.office) mine ∙ start_at))
+      subst (λ (s : StepStart). HasWithin desk.layout desk.office.tables.sets s committed image) (same_Some start its (sym within.start_at ∙ ap (start_in_office desk.office) mine ∙ start_at))
       (place-within desk is run row number committed start within image had)))
       (λ step some.
       subst (λ n. HasWithinRun desk.layout desk.office run n image) (sym (ap (λ (o : Option TurnStep). (option_map_or running_reached o (kept_reached (jobs_of desk) row)).writes) some))

@@ -7,7 +7,7 @@ use Rattle.ckr_events.specs.declared.event.Event.{Event}
 use Rattle.ckr_events.specs.declared.event.Event.TheVariants.{Held, Restarted}
 use Rattle.ckr_events.specs.Jobs.{job_of}
 use Rattle.ckr_jcl.specs.declared.deck.Job.{Job}
-use Rattle.ckr_desk_memory.specs.EventChanges.{is_point_of, points_behind, without_run}
+use Rattle.ckr_desk_memory.specs.EventChanges.{is_point_of, points_behind, without_run, without_run as seen_without}
 use Rattle.ckr_desk_memory.specs.RunningSteps.{StepGoesBack}
 use Rattle.ckr_desk_memory.specs.View.{JobsView, PointView}
 use Rattle.ckr_desk_memory.proofs.Points.{other-point}
@@ -22,7 +22,7 @@ use Rattle.ckr_points.specs.Office.{Office, office_after}
 use Rattle.ckr_points.specs.Restart.{after_event}
 use Rattle.ckr_points.specs.Rows.{TablesModel}
 use Rattle.ckr_desk_refines.specs.Moves.{HasSameRecords, HaveMoved}
-use Rattle.ckr_desk_refines.specs.Standing.{AllStand, OwnStands, PointsStand, StandsForDesk, differ, seen_without, steps_without}
+use Rattle.ckr_desk_refines.specs.Standing.{AllStand, OwnStands, PointsStand, StandsForDesk, differ, steps_without}
 use Rattle.ckr_desk_turn.specs.Desk.{DeskModel, behind, failed_behind, running_behind}
 use Rattle.ckr_volumes.specs.declared.layout.Layout.{Layout}
 use Rattle.ckr_desk_refines.proofs.Events.Restarts.{again-stand, back-stands, running-is, step_back}

@@ -13,7 +13,7 @@ use Rattle.ckr_points_library.specs.Commit.{output_names}
 use Rattle.ckr_points.specs.declared.run.RunState.TheVariants.{Held as HeldRun, Released as ReleasedRun}
 use Rattle.ckr_points.specs.Follows.{is_within}
 use Rattle.ckr_points.specs.Office.{Leg, Office, is_holder, office_after}
-use Rattle.ckr_points.specs.Payload.{carries}
+use Rattle.ckr_points.specs.Payload.{carries, start_in_office}
 use Rattle.ckr_points.specs.Restart.{kept_at, place_of}
 use Rattle.ckr_points.specs.Rows.{EffectPoint, KeptEntry, RunRow, TableSet, run_of}
 use Rattle.ckr_points.specs.Soundness.{may_come}
@@ -25,7 +25,6 @@ use Rattle.ckr_points_invariant.proofs.Readiness.Runs.{kept-entry}
 use Rattle.ckr_volumes.specs.declared.layout.Layout.{Layout}
 use Rattle.ckr_desk_memory.specs.Invariant.{is_in_step}
 use Rattle.ckr_desk_memory.specs.View.{PointView}
-use Rattle.ckr_desk_turn.specs.Desk.{start_of}
 use Rattle.ckr_desk_refines.specs.Standing.{OwnStands, PointsStand}
 use Rattle.ckr_desk_refines.proofs.Durable.Office.{CommitsNow, behind_hold, by-held}
 use Rattle.ckr_desk_refines.proofs.Entries.KeptEntries.{kept_at-committed}
@@ -65,7 +64,7 @@ module _ (layout : Layout) (now : Office) (agreed : IsAgreed layout now) (ready 
         by-effect (behind_hold now code writes lengths row owned).tables later entry found
         (λ effect got there.
         let was : row.in_effect ≡ Some effect = ap (λ (r : RunRow). r.in_effect) same ∙ got in
-        stand job row entry start its_row in-step (ap (entry_in_effect now.tables) was ∙ entry-kept effect was entry there) (ap (start_of (behind_hold now code writes lengths row owned)) same ∙ starts))
+        stand job row entry start its_row in-step (ap (entry_in_effect now.tables) was ∙ entry-kept effect was entry there) (ap (start_in_office (behind_hold now code writes lengths row owned)) same ∙ starts))
 
   pub held-stands : (job writes : ℕ) (code : Code) (lengths : ArrayVec ℕ) → may_come layout now (Held job code writes lengths, None) ≡ true → carries layout now (Held job code writes lengths) None ≡ true
       → OwnStands (office_after (Held job code writes lengths, None) now) points job
@@ -84,4 +83,4 @@ module _ (layout : Layout) (now : Office) (agreed : IsAgreed layout now) (ready 
       stand job row entry start at in_step
       (ap (entry_in_effect now.tables) (ap (λ (r : RunRow). r.in_effect) same ∙ got)
       ∙ ap (λ sets. kept_at sets effect.set effect.kept.id) (sym (released-enters layout now job row agreed at held).sets) ∙ kept)
-      (ap (start_of (office_after (Released job, None) now)) same ∙ starts))
+      (ap (start_in_office (office_after (Released job, None) now)) same ∙ starts))

@@ -36,15 +36,17 @@ use Rattle.ckr_points_invariant.specs.RunningSteps.{IsRunning, its_start}
 use Rattle.ckr_points_invariant.proofs.Steps.Commits.{formed_step, place_so}
 use Rattle.ckr_points_invariant.proofs.Steps.Walks.{at-before}
 use Rattle.ckr_desk_refines.specs.Moves.{HasSameRecords}
-use Rattle.ckr_desk_refines.specs.Standing.{AllStand, StandsForStep, differ, is_of_one, seen_without, steps_without}
+use Rattle.ckr_desk_refines.specs.Standing.{AllStand, StandsForStep, differ, is_of_one, steps_without}
 use Rattle.ckr_steps.specs.Places.{ShowsWithin}
 use Rattle.ckr_steps.specs.Writes.{IsShown}
-use Rattle.ckr_desk_turn.specs.Desk.{DeskModel, DeskStep, start_of}
+use Rattle.ckr_desk_turn.specs.Desk.{DeskModel, DeskStep}
 use Rattle.ckr_volumes.specs.declared.layout.Layout.{Layout}
 use Rattle.ckr_volumes.specs.Records.{records_on}
 use Rattle.ckr_volumes.specs.SamePlaces.{same_places}
 use Rattle.ckr_volumes.specs.Layouts.{StandsIn}
 use Rattle.ckr_desk_refines.proofs.Events.OtherRows.{Enters, LeavesRuns}
+use Rattle.ckr_points.specs.Payload.{start_in_office}
+use Rattle.ckr_desk_memory.specs.EventChanges.{without_run as seen_without}
 
 -- ---- lists
 
@@ -133,7 +135,7 @@ module _ (desk : DeskModel) (is : IsDesk desk) (later : Office) (before after : 
   mine = same_Some going.row stands.row (sym going.row_at ∙ stands.row_at)
 
   its : going.start ≡ stands.start
-  its = same_Some going.start stands.start (sym going.start_at ∙ ap (start_of desk.office) mine ∙ stands.start_at)
+  its = same_Some going.start stands.start (sym going.start_at ∙ ap (start_in_office desk.office) mine ∙ stands.start_at)
 
   spaced_now : AreWithinSpace (within_at stands.start step.progress.writes)
   spaced_now =
@@ -170,7 +172,7 @@ module _ (desk : DeskModel) (is : IsDesk desk) (later : Office) (before after : 
       }
 
   -- it stands by a later row of its run, of the same start
-  pub still-stands : (row : RunRow) → run_of later.tables step.run ≡ Some row → start_of later row ≡ Some stands.start
+  pub still-stands : (row : RunRow) → run_of later.tables step.run ≡ Some row → start_in_office later row ≡ Some stands.start
       → ((name : Name) → is_among (names_of stands.start.root stands.start.owned) name ≡ true → entry_at later.tables.sets name ≡ entry_at desk.office.tables.sets name)
       → StandsForStep desk.layout later after on step
   still-stands row row_there start_there entries = record {
@@ -207,7 +209,7 @@ module _ (desk : DeskModel) (is : IsDesk desk) (later : Office) (run : ℕ) (lea
         others-of-step desk.layout desk.office later run step.run going.row leg owned going.number going.committed name is.kept.events others running apart
         (ap (λ (s : StepStart). is_among (names_of s.root s.owned) name) (sym starts ∙ its desk is later before after same on step going stands) ∙ among))
 
-    start_there : start_of later stands.row ≡ Some stands.start
+    start_there : start_in_office later stands.row ≡ Some stands.start
     start_there =
         ap (λ (o : Option Leg). option_map_or (λ leg. start_at leg.job leg.start (step_in (place_of stands.row))) o None)
         (leaves.legs stands.row.number (λ e. apart (sym (is.kept.events.numbered step.run stands.row stands.row_at) ∙ e)))

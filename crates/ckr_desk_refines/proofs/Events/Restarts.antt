@@ -17,7 +17,7 @@ use Rattle.ckr_points_library.specs.Commit.{output_names}
 use Rattle.ckr_points.specs.declared.run.RunState.TheVariants.{Released}
 use Rattle.ckr_points.specs.Follows.{is_free, is_in_state, is_running, is_within, may_restart_again}
 use Rattle.ckr_points.specs.Office.{Leg, Office, is_holder, leg_of, office_after}
-use Rattle.ckr_points.specs.Payload.{writes_in}
+use Rattle.ckr_points.specs.Payload.{writes_in, start_in_office}
 use Rattle.ckr_points.specs.Restart.{after_put_back, after_restarted, back_to_entry, by_step, effect_restarted, kept_at, place_of, row_on, step_in}
 use Rattle.ckr_points.specs.Rows.{EffectPoint, KeptEntry, RunRow, TablesModel, run_of}
 use Rattle.ckr_points_invariant.specs.Invariant.{step_now}
@@ -30,7 +30,7 @@ use Rattle.ckr_desk_memory.specs.RunningSteps.{StepGoesBack}
 use Rattle.ckr_desk_memory.specs.View.{PointView, RunningStepView}
 use Rattle.ckr_desk_memory.proofs.Holders.Events.{by-some}
 use Rattle.ckr_desk_memory.proofs.Holders.Moves.{by-own, by-row, row-as_is, row-next}
-use Rattle.ckr_desk_turn.specs.Desk.{DeskModel, DeskStep, at_entry, behind, running_again, start_of, without_run as without_steps}
+use Rattle.ckr_desk_turn.specs.Desk.{DeskModel, DeskStep, at_entry, behind, running_again, without_run as without_steps}
 use Rattle.ckr_desk_turn.specs.Invariant.{IsDesk, IsGoing}
 use Rattle.ckr_desk_turn.specs.Jobs.{effect_entry}
 use Rattle.ckr_desk_turn.specs.NextEvents.{Comes}
@@ -115,7 +115,7 @@ module _ (desk : DeskModel) (is : IsDesk desk) (job initiator : ℕ) (code : Cod
   step_back = at_entry job back.entry.point
 
   -- the run starts its step as it did
-  start-same : start_of later back.next ≡ start_of desk.office back.row
+  start-same : start_in_office later back.next ≡ start_in_office desk.office back.row
   start-same =
       ap (λ (o : Option Leg). option_map_or (λ leg. start_at leg.job leg.start (step_in (place_of back.next))) o None) (ap (leg_of desk.office) back.number)
       ∙ ap (λ (o : Option Place). option_map_or (λ leg. start_at leg.job leg.start (step_in (option_map_or (λ place. place) o (Before 1)))) (leg_of desk.office back.row.number) None) back.place
@@ -126,7 +126,7 @@ module _ (desk : DeskModel) (is : IsDesk desk) (job initiator : ℕ) (code : Cod
     back-stands row entry start at running found starts =
         let same_row : back.next ≡ row = some-one back.next row (run_of later.tables job) back.next_at at in
         let same_entry : back.entry ≡ entry = some-one back.entry entry (effect_entry later.tables row) (ap (effect_entry later.tables) (sym same_row) ∙ back.still) found in
-        stand job back.row entry start back.row_at back.runs (back.there ∙ ap Some same_entry) (sym start-same ∙ ap (start_of later) same_row ∙ starts)
+        stand job back.row entry start back.row_at back.runs (back.there ∙ ap Some same_entry) (sym start-same ∙ ap (start_in_office later) same_row ∙ starts)
 
     module _ (kept : IsDesk (behind (Restarted job initiator code true) None desk)) where
       abbrev then : DeskModel
@@ -147,7 +147,7 @@ module _ (desk : DeskModel) (is : IsDesk desk) (job initiator : ℕ) (code : Cod
       writes-is = ap writes_in (same_Some _ _ (sym going.place ∙ ap (λ (r : RunRow). r.place) same-row ∙ back.place))
 
       point : StandsForPoint points job going.start back.entry
-      point = stand job back.row back.entry going.start back.row_at back.runs back.there (sym start-same ∙ ap (start_of later) (sym same-row) ∙ going.start_at)
+      point = stand job back.row back.entry going.start back.row_at back.runs back.there (sym start-same ∙ ap (start_in_office later) (sym same-row) ∙ going.start_at)
 
       -- it stands before the other ones
       pub again-stand : (image : List ℕ) → HasCommitted desk.layout later image → (old new : List RunningStepView) → StepGoesBack (find (is_point_of job) points) job later.tables old new

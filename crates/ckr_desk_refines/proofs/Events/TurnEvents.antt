@@ -26,7 +26,7 @@ use Rattle.ckr_points.specs.Office.{office_after}
 use Rattle.ckr_points.specs.Restart.{after_event, step_in}
 use Rattle.ckr_points.specs.Rows.{TablesModel, run_of, step_of_run}
 use Rattle.ckr_desk_refines.specs.Moves.{HasSameRecords, HaveMoved, KnowsItsEntry}
-use Rattle.ckr_desk_refines.specs.Standing.{AllStand, StandsForDesk, seen_without, steps_without}
+use Rattle.ckr_desk_refines.specs.Standing.{AllStand, StandsForDesk, steps_without}
 use Rattle.ckr_desk_turn.specs.Desk.{DeskModel, at_first, behind, running_behind}
 use Rattle.ckr_volumes.specs.declared.layout.Layout.{Layout}
 use Rattle.ckr_desk_refines.proofs.Events.Continuation.{continued-stands}
@@ -39,6 +39,7 @@ use Rattle.ckr_desk_refines.proofs.Events.IdleRuns.{cancelled-idle, ended-idle, 
 use Rattle.ckr_desk_refines.proofs.Events.OtherRows.{EntersOut, cancelled-leaves, ended-leaves, selected-enters, started-leaves, step_ended-leaves}
 use Rattle.ckr_desk_refines.proofs.Events.Start.{new-stand, started-place}
 use Rattle.ckr_desk_refines.proofs.Standing.Points.{idle-stands}
+use Rattle.ckr_desk_memory.specs.EventChanges.{without_run as seen_without}
 
 -- ---- what is committed
 

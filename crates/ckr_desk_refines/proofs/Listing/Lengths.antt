@@ -16,7 +16,7 @@ use Rattle.ckr_meaning.specs.EffectiveJob.{OwnedStep, is_among, names_of}
 use Rattle.ckr_meaning.specs.LibrarySet.{LibrarySet}
 use Rattle.ckr_meaning.specs.StepRun.{StepStart, set_records, within_at, written_all}
 use Rattle.ckr_meaning.proofs.WriteSeries.{within_at-more}
-use Rattle.ckr_points.specs.Payload.{rewrites_nothing, writes_between}
+use Rattle.ckr_points.specs.Payload.{rewrites_nothing, writes_between, start_in_office}
 use Rattle.ckr_points.specs.Office.{Leg, Office}
 use Rattle.ckr_points.specs.Rows.{RunRow, TableSet}
 use Rattle.ckr_points_invariant.specs.Invariant.{Shape, set_shape, table_shape}
@@ -26,7 +26,7 @@ use Rattle.ckr_points_invariant.proofs.Stamps.Tables.{alike_set}
 use Rattle.ckr_points_invariant.proofs.Writes.Likeness.{bare, written_all-bare}
 use Rattle.ckr_desk_refines.specs.Standing.{AllStand, StandsForStep}
 use Rattle.ckr_steps.specs.Writes.{IsShown}
-use Rattle.ckr_desk_turn.specs.Desk.{DeskModel, DeskStep, start_of}
+use Rattle.ckr_desk_turn.specs.Desk.{DeskModel, DeskStep}
 use Rattle.ckr_desk_refines.specs.Lengths.{longest_seen}
 use Rattle.ckr_desk_refines.specs.Listing.{length_at, length_in_step, longest}
 use Rattle.ckr_desk_refines.proofs.Standing.Lengths.{bare-set, in-sets}
@@ -76,13 +76,13 @@ module _ (desk : DeskModel) (is : IsDesk desk) (name : Name) (table : TableSet) 
   same-length image on step going stands = by (is_among (names_of stands.start.root stands.start.owned) name) refl ∙ sym started
     where
       started : length_in_step office name step ≡ length_at name step stands.start
-      started = ap (λ (o : Option StepStart). option_map_or (length_at name step) o 0) (ap (λ (o : Option RunRow). option_map_or (start_of office) o None) stands.row_at ∙ stands.start_at)
+      started = ap (λ (o : Option StepStart). option_map_or (length_at name step) o 0) (ap (λ (o : Option RunRow). option_map_or (start_in_office office) o None) stands.row_at ∙ stands.start_at)
 
       same-row : going.row ≡ stands.row
       same-row = same_Some going.row stands.row (sym going.row_at ∙ stands.row_at)
 
       same-start : going.start ≡ stands.start
-      same-start = same_Some going.start stands.start (sym going.start_at ∙ ap (start_of office) same-row ∙ stands.start_at)
+      same-start = same_Some going.start stands.start (sym going.start_at ∙ ap (start_in_office office) same-row ∙ stands.start_at)
 
       by : (among : Bool) → is_among (names_of stands.start.root stands.start.owned) name ≡ among
           → length_in on.sets.sets name ≡ (cond among (option_map_or (λ set. length (set_records set)) (entry_at (within_at stands.start step.progress.writes) name) 0) 0)

@@ -26,7 +26,7 @@ use Rattle.ckr_meaning.specs.declared.place.Place.TheVariants.{Before, Within}
 use Rattle.ckr_meaning.proofs.WriteSeries.{within_at-more}
 use Rattle.ckr_meaning.proofs.Room.{at-within, within_at-within}
 use Rattle.ckr_desk_memory.specs.View.{RunningStepView}
-use Rattle.ckr_points.specs.Payload.{rewrites_nothing, writes_between, writes_in}
+use Rattle.ckr_points.specs.Payload.{rewrites_nothing, writes_between, writes_in, start_in_office}
 use Rattle.ckr_points.specs.Office.{Leg}
 use Rattle.ckr_points.specs.Restart.{place_of, step_in}
 use Rattle.ckr_points.specs.Rows.{RunRow, TableSet, step_of_run}
@@ -43,7 +43,7 @@ use Rattle.ckr_steps.specs.Inputs.{AreStored}
 use Rattle.ckr_steps.specs.Places.{ShowsWithin, IsStepPlace}
 use Rattle.ckr_steps.specs.Units.{AreServed}
 use Rattle.ckr_steps.specs.Writes.{IsShown}
-use Rattle.ckr_desk_turn.specs.Desk.{DeskModel, DeskStep, start_of}
+use Rattle.ckr_desk_turn.specs.Desk.{DeskModel, DeskStep}
 use Rattle.ckr_base.specs.declared.code.Code.{Code}
 use Rattle.ckr_desk_turn.specs.Units.{arrived}
 use Rattle.ckr_volumes.specs.declared.layout.Layout.{Layout}
@@ -59,7 +59,7 @@ pub record IsLedStep (desk : DeskModel) (image : List ℕ) (on : RunningStepView
   pub running : IsRunning desk.office step.run row leg owned (step_now row) (writes_in (place_of row))
   pub spaced : AreWithinSpace leg.start
   pub numbered : row.number ≡ step.run
-  pub starts : start_of desk.office row ≡ Some (its_start leg owned (step_now row))
+  pub starts : start_in_office desk.office row ≡ Some (its_start leg owned (step_now row))
   pub behind : writes_in (place_of row) ≤ step.progress.writes
   pub fit : step.progress.writes ≤ length (work_at (its_start leg owned (step_now row))).writes
   pub plain : rewrites_nothing (its_start leg owned (step_now row)) (writes_in (place_of row)) step.progress.writes ≡ true
@@ -79,7 +79,7 @@ pub record IsLedStep (desk : DeskModel) (image : List ℕ) (on : RunningStepView
 pub led-step : (desk : DeskModel) → IsDesk desk → (image : List ℕ) (on : RunningStepView) (step : DeskStep) → IsGoing desk.office step → StandsForStep desk.layout desk.office image on step → IsLedStep desk image on step
 led-step desk is image on step going stands =
     let row : going.row ≡ stands.row = same_Some going.row stands.row (sym going.row_at ∙ stands.row_at) in
-    let start : going.start ≡ stands.start = same_Some going.start stands.start (sym going.start_at ∙ ap (start_of desk.office) row ∙ stands.start_at) in
+    let start : going.start ≡ stands.start = same_Some going.start stands.start (sym going.start_at ∙ ap (start_in_office desk.office) row ∙ stands.start_at) in
     by-step desk is step.run going.row going.number going.committed going.start (going-within desk.office step going)
     (λ leg owned running same spaced.
     let now : step_now going.row ≡ going.number = ap step_in running.stands in

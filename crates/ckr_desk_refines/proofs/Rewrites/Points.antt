@@ -18,7 +18,7 @@ use Rattle.ckr_points_invariant.proofs.WaitingRuns.{follows-of}
 use Rattle.ckr_desk_memory.specs.Invariant.{is_in_step}
 use Rattle.ckr_desk_memory.specs.View.{PointView, RunningStepView}
 use Rattle.ckr_desk_memory.proofs.Holders.Events.{rewritten-effect}
-use Rattle.ckr_desk_turn.specs.Desk.{DeskModel, start_of}
+use Rattle.ckr_desk_turn.specs.Desk.{DeskModel}
 use Rattle.ckr_desk_turn.specs.Invariant.{IsDesk}
 use Rattle.ckr_desk_refines.specs.Standing.{OwnStands, PointsStand}
 use Rattle.ckr_desk_refines.proofs.Entries.Effects.{passes-of}
@@ -27,6 +27,7 @@ use Rattle.ckr_desk_refines.proofs.Events.OtherRows.{LeavesRuns}
 use Rattle.ckr_desk_refines.proofs.Rewrites.Office.{next, next-at, other-at}
 use Rattle.ckr_desk_refines.proofs.Rewrites.Requests.{IsAsked, comes, event, leaves, lengths, row-at, then}
 use Rattle.ckr_desk_refines.proofs.Standing.Points.{by-effect, check-by, entry_in_effect, points-next}
+use Rattle.ckr_points.specs.Payload.{start_in_office}
 
 module _ (before after : List ℕ) (desk : DeskModel) (is : IsDesk desk) (run : ℕ) (on moved : RunningStepView) (place : ℕ) (image : List ℕ) (taken : ℕ) (asked : IsAsked before after desk run on moved place image taken) where
   abbrev row : RunRow
@@ -81,7 +82,7 @@ module _ (before after : List ℕ) (desk : DeskModel) (is : IsDesk desk) (run : 
         stand asked.step.run row entry start its_row running
         (ap (entry_in_effect desk.office.tables) was
         ∙ entry-kept old was running entry (ap (λ (e : EffectPoint). kept_at (then before after desk is run on moved place image taken asked).tables.sets e.set e.kept.id) new ∙ there))
-        (ap (start_of (then before after desk is run on moved place image taken asked)) same ∙ starts)))
+        (ap (start_in_office (then before after desk is run on moved place image taken asked)) same ∙ starts)))
 
     leaves-runs : LeavesRuns desk.office (then before after desk is run on moved place image taken asked) asked.step.run
     leaves-runs = record { rows = other-at desk before on asked.step asked.led moved.step.writes moved.sets asked.same; legs = λ other apart. refl }

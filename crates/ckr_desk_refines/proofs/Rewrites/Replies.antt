@@ -10,13 +10,13 @@ use Rattle.ckr_events.specs.declared.event.Event.TheVariants.{Rewritten as Rewri
 use Rattle.ckr_library.specs.Catalog.{Catalog}
 use Rattle.ckr_meaning.specs.Program.{unit_done as program_unit}
 use Rattle.ckr_meaning.specs.StepRun.{StepStart, case_at, work_at}
-use Rattle.ckr_points.specs.Payload.{lengths_at}
+use Rattle.ckr_points.specs.Payload.{lengths_at, start_in_office}
 use Rattle.ckr_points.specs.Rows.{RunRow, run_of}
 use Rattle.ckr_steps.specs.declared.step_run.StepRun.{StepRun}
 use Rattle.ckr_steps.specs.Places.{IsToRewrite}
 use Rattle.ckr_desk_turn.specs.declared.plan.Plan.TheVariants.{Rest, Tell}
 use Rattle.ckr_points.specs.declared.reply.Reply.TheVariants.{Idle, Worked}
-use Rattle.ckr_desk_turn.specs.Desk.{DeskModel, DeskStep, TurnDone, done_by, jobs_of, progress_of, seen_from, start_of, unit_done, with_progress, work_of}
+use Rattle.ckr_desk_turn.specs.Desk.{DeskModel, DeskStep, TurnDone, done_by, jobs_of, progress_of, seen_from, unit_done, with_progress, work_of}
 use Rattle.ckr_desk_turn.specs.Jobs.{TurnStep, step_name_of}
 use Rattle.ckr_desk_turn.specs.Units.{StepProgress, UnitEnd, abended, arrived, finished_by, no_more_space, unit_end, updated_lrecl, went}
 use Rattle.ckr_desk_turn.specs.Invariant.{next_writes}
@@ -40,14 +40,14 @@ told_so row taken writes lengths place bytes desk =
     done_by (Tell (Worked row.number (step_name_of row) taken) (rewritten_event row.number taken writes lengths place bytes))
     (with_progress row.number (arrived taken writes) desk)
 
-module _ (desk : DeskModel) (on : DeskStep) (row : RunRow) (start : StepStart) (row_at : run_of desk.office.tables on.run ≡ Some row) (numbered : run_of desk.office.tables row.number ≡ Some row) (start_at : start_of desk.office row ≡ Some start)
+module _ (desk : DeskModel) (on : DeskStep) (row : RunRow) (start : StepStart) (row_at : run_of desk.office.tables on.run ≡ Some row) (numbered : run_of desk.office.tables row.number ≡ Some row) (start_at : start_in_office desk.office row ≡ Some start)
     (answer : Answer) (found : progress_of desk on.run ≡ Some on.progress)
     (told : Type 0) (image : List ℕ) (layout : Layout) (taken place : ℕ) (bytes : List ℕ) (old new : StepRun) (sets : Catalog)
     (rewrite : IsToRewrite told image layout start on.progress.taken taken place bytes old new sets) (counts : old.writes ≡ on.progress.writes) (next : taken ≡ suc on.progress.taken)
     (lrecl : updated_lrecl (jobs_of desk) row ≡ rewrite.rewritten.lrecl) where
   works : work_of answer on.run desk ≡ unit_done answer row (unit_end start on.progress) desk
   works =
-      ap (λ (o : Option RunRow). option_map_or (λ row. option_map_or (λ start. option_map_or (λ progress. unit_done answer row (unit_end start progress) desk) (progress_of desk on.run) (done_by (Rest Idle) desk)) (start_of desk.office row) (done_by (Rest Idle) desk)) o (done_by (Rest Idle) desk)) row_at
+      ap (λ (o : Option RunRow). option_map_or (λ row. option_map_or (λ start. option_map_or (λ progress. unit_done answer row (unit_end start progress) desk) (progress_of desk on.run) (done_by (Rest Idle) desk)) (start_in_office desk.office row) (done_by (Rest Idle) desk)) o (done_by (Rest Idle) desk)) row_at
       ∙ ap (λ (o : Option StepStart). option_map_or (λ start. option_map_or (λ progress. unit_done answer row (unit_end start progress) desk) (progress_of desk on.run) (done_by (Rest Idle) desk)) o (done_by (Rest Idle) desk)) start_at
       ∙ ap (λ (o : Option StepProgress). option_map_or (λ progress. unit_done answer row (unit_end start progress) desk) o (done_by (Rest Idle) desk)) found
 

@@ -12,11 +12,11 @@ use Rattle.ckr_desk_turn.proofs.NextEvents.WithinStep.{by-step}
 use Rattle.ckr_desk_refines.specs.StepSets.{HasSets}
 use Rattle.ckr_meaning.specs.EffectiveJob.{names_of}
 use Rattle.ckr_meaning.specs.StepRun.{StepStart, work_at}
-use Rattle.ckr_points.specs.Payload.{lengths_at, rewrites_nothing}
+use Rattle.ckr_points.specs.Payload.{lengths_at, rewrites_nothing, start_in_office}
 use Rattle.ckr_points.specs.Office.{Office}
 use Rattle.ckr_points.specs.Rows.{RunRow, TablesModel, run_of}
 use Rattle.ckr_steps.specs.Places.{ShowsWithin}
-use Rattle.ckr_desk_turn.specs.Desk.{DeskModel, DeskStep, seen, seen_from, seen_step, start_of, jobs_of as jobs_of_desk}
+use Rattle.ckr_desk_turn.specs.Desk.{DeskModel, DeskStep, seen, seen_from, seen_step, jobs_of as jobs_of_desk}
 use Rattle.ckr_desk_turn.specs.Jobs.{TurnJobs, TurnStep, as_stopped}
 use Rattle.ckr_desk_turn.specs.declared.failed_run.FailedRun.{FailedRun}
 use Rattle.ckr_desk_turn.specs.Turns.{MountedTurn, plan_for}
@@ -44,9 +44,9 @@ seen-run office step = stopped-run step.code (seen office step.run step.progress
     of_start None = refl
     of_start (Some start) = refl
 
-    by : (o : Option RunRow) → (option_map_or (seen_from office step.run step.progress) (option_map_or (start_of office) o None) (nothing_seen step.run step.progress)).run ≡ step.run
+    by : (o : Option RunRow) → (option_map_or (seen_from office step.run step.progress) (option_map_or (start_in_office office) o None) (nothing_seen step.run step.progress)).run ≡ step.run
     by None = refl
-    by (Some row) = of_start (start_of office row)
+    by (Some row) = of_start (start_in_office office row)
 
 on-run : (tables : TablesModel) (on : RunningStepView) → (running_of tables on).run ≡ on.run
 on-run tables on = stopped-run on.code _
@@ -56,7 +56,7 @@ module _ (desk : DeskModel) (is : IsDesk desk) (image : List ℕ) where
   same-step : (on : RunningStepView) (step : DeskStep) → IsGoing desk.office step → StandsForStep desk.layout desk.office image on step → running_of desk.office.tables on ≡ seen_step desk.office step
   same-step on step going stands =
       let row : going.row ≡ stands.row = same_Some going.row stands.row (sym going.row_at ∙ stands.row_at) in
-      let start : going.start ≡ stands.start = same_Some going.start stands.start (sym going.start_at ∙ ap (start_of desk.office) row ∙ stands.start_at) in
+      let start : going.start ≡ stands.start = same_Some going.start stands.start (sym going.start_at ∙ ap (start_in_office desk.office) row ∙ stands.start_at) in
       seen-so desk.layout desk.office image on step stands
       (ap (λ run. option_map_or (lengths_of_row on.sets.sets) (run_of desk.office.tables run) []) stands.run
       ∙ ap (λ (o : Option RunRow). option_map_or (lengths_of_row on.sets.sets) o []) going.row_at

@@ -11,7 +11,7 @@ use Rattle.ckr_meaning.specs.StepRun.{StepStart}
 use Rattle.ckr_points_library.specs.Commit.{output_names}
 use Rattle.ckr_points.specs.Follows.{is_within}
 use Rattle.ckr_points.specs.Office.{Leg, Office, is_holder}
-use Rattle.ckr_points.specs.Payload.{writes_in}
+use Rattle.ckr_points.specs.Payload.{writes_in, start_in_office}
 use Rattle.ckr_points.specs.Restart.{kept_at, place_of, step_in}
 use Rattle.ckr_points.specs.Rows.{EffectPoint, KeptEntry, RunRow, TablesModel, run_of}
 use Rattle.ckr_points_invariant.specs.Invariant.{IsAgreed, IsHolder, step_now}
@@ -24,7 +24,6 @@ use Rattle.ckr_volumes.specs.declared.layout.Layout.{Layout}
 use Rattle.ckr_desk_memory.specs.EventChanges.{is_point_of}
 use Rattle.ckr_desk_memory.specs.Invariant.{is_in_step}
 use Rattle.ckr_desk_memory.specs.View.{PointView}
-use Rattle.ckr_desk_turn.specs.Desk.{start_of}
 use Rattle.ckr_desk_turn.specs.Jobs.{effect_entry}
 use Rattle.ckr_desk_refines.specs.SharedSets.{LeavesOthers}
 use Rattle.ckr_desk_refines.specs.Standing.{OwnStands, PointsStand, StandsForPoint}
@@ -79,7 +78,7 @@ module _ (layout : Layout) (now : Office) (agreed : IsAgreed layout now) (ready 
         (running-so layout now number row leg check.owned holder (and-second (is_holder row.state) (is_within (place_of row)) runs) check.found_step) effect.set
         (outputs-among leg.job.root check.owned effect.set (ap (λ (job : Effective). is_among (output_names job.root check.owned) effect.set) (agreed.places number row leg holder).job ∙ check.among))))
 
-    other-stands : (number : ℕ) (row : RunRow) (entry : KeptEntry) (start : StepStart) → number ≢ run → run_of later.tables number ≡ Some row → is_in_step row ≡ true → effect_entry later.tables row ≡ Some entry → start_of later row ≡ Some start → StandsForPoint new number start entry
+    other-stands : (number : ℕ) (row : RunRow) (entry : KeptEntry) (start : StepStart) → number ≢ run → run_of later.tables number ≡ Some row → is_in_step row ≡ true → effect_entry later.tables row ≡ Some entry → start_in_office later row ≡ Some start → StandsForPoint new number start entry
     other-stands number row entry start apart at_later runs found starts =
         let at : run_of now.tables number ≡ Some row = sym (leaves.rows number apart) ∙ at_later in
         by-effect later.tables row entry found

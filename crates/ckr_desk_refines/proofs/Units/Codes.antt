@@ -13,7 +13,7 @@ use Rattle.ckr_events.specs.declared.event.Event.{Event}
 use Rattle.ckr_events.specs.declared.event.Event.TheVariants.{Ended as EndedEvent, Held as HeldEvent, Restarted as RestartedEvent}
 use Rattle.ckr_events.specs.declared.event.Ending.{Ending}
 use Rattle.ckr_events.specs.declared.event.Ending.TheVariants.{Coded as CodedEnding}
-use Rattle.ckr_desk_memory.specs.EventChanges.{without_first}
+use Rattle.ckr_desk_memory.specs.EventChanges.{without_first, without_run as seen_without}
 use Rattle.ckr_desk_memory.specs.Plans.{told_by}
 use Rattle.ckr_desk_memory.specs.View.{JobsView, RunningStepView, running_of}
 use Rattle.ckr_desk_turn.proofs.Codes.{by-verdict}
@@ -27,7 +27,7 @@ use Rattle.ckr_points.specs.Payload.{rewrites_nothing, start_in_office}
 use Rattle.ckr_points.specs.Rows.{RunRow, TablesModel, run_of}
 use Rattle.ckr_rules.specs.RuleTables.{rule_number}
 use Rattle.ckr_rules.specs.declared.cases.Rule.TheVariants.{A6}
-use Rattle.ckr_desk_refines.specs.Standing.{AllStand, PointsStand, StandsBut, seen_without, steps_without}
+use Rattle.ckr_desk_refines.specs.Standing.{AllStand, PointsStand, StandsBut, steps_without}
 use Rattle.ckr_steps.specs.declared.step_run.Worked.TheVariants.{Abend}
 use Rattle.ckr_steps.specs.Places.{EndsSo}
 use Rattle.ckr_desk_turn.specs.Codes.{CodePlaceModel, code_plan, initiator_of, inquiry_of, running_reached}

@@ -19,16 +19,17 @@ use Rattle.ckr_points.specs.Office.{Office}
 use Rattle.ckr_points.specs.Rows.{TableSet}
 use Rattle.ckr_desk_refines.specs.Standing.{StandsForStep}
 use Rattle.ckr_steps.specs.Writes.{IsShown, Keeps}
-use Rattle.ckr_desk_turn.specs.Desk.{DeskModel, DeskStep, start_of}
+use Rattle.ckr_desk_turn.specs.Desk.{DeskModel, DeskStep}
 use Rattle.ckr_volumes.specs.declared.layout.Layout.{Layout}
 use Rattle.ckr_volumes.specs.Layouts.{StandsIn}
 use Rattle.ckr_desk_refines.proofs.Units.Contents.{in-its-step, model-at, model-spaced}
+use Rattle.ckr_points.specs.Payload.{start_in_office}
 
 -- the step that stands in memory is that of its run
 pub same-start : (layout : Layout) (office : Office) (image : List ℕ) (on : RunningStepView) (step : DeskStep) (going : IsGoing office step) (stands : StandsForStep layout office image on step) → going.start ≡ stands.start
 same-start layout office image on step going stands =
     let row : going.row ≡ stands.row = same_Some going.row stands.row (sym going.row_at ∙ stands.row_at) in
-    same_Some going.start stands.start (sym going.start_at ∙ ap (start_of office) row ∙ stands.start_at)
+    same_Some going.start stands.start (sym going.start_at ∙ ap (start_in_office office) row ∙ stands.start_at)
 
 module _ (desk : DeskModel) (is : IsDesk desk) (image : List ℕ) (on : RunningStepView) (step : DeskStep) (going : IsGoing desk.office step) (stands : StandsForStep desk.layout desk.office image on step) where
   -- a name of its data sets is one of its step's names

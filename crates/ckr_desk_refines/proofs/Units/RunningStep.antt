@@ -11,7 +11,7 @@ use Rattle.ckr_points.specs.Rows.{RunRow, run_of}
 use Rattle.ckr_desk_refines.specs.Standing.{StandsForDesk}
 use Rattle.ckr_steps.specs.Places.{ShowsWithin, IsStepPlace}
 use Rattle.ckr_steps.specs.Units.{is_cancelled, is_checkpointed}
-use Rattle.ckr_desk_turn.specs.Desk.{DeskModel, DeskStep, done_by, jobs_of, progress_of, progress_unless, start_of, unit_done, work_of}
+use Rattle.ckr_desk_turn.specs.Desk.{DeskModel, DeskStep, done_by, jobs_of, progress_of, progress_unless, unit_done, work_of}
 use Rattle.ckr_desk_turn.specs.declared.plan.Plan.TheVariants.{Rest, Work}
 use Rattle.ckr_points.specs.declared.reply.Reply.TheVariants.{Idle}
 use Rattle.ckr_desk_turn.specs.Turns.{MountedTurn, plan_for}
@@ -21,6 +21,7 @@ use Rattle.ckr_desk_refines.proofs.Units.DueUnits.{IsDue, due-unclosed, is-due}
 use Rattle.ckr_desk_refines.proofs.Units.Outcomes.{open_at}
 use Rattle.ckr_desk_refines.proofs.Units.Plans.{asked_in}
 use Rattle.ckr_desk_refines.proofs.Units.StepLists.{IsPair, pair-of}
+use Rattle.ckr_points.specs.Payload.{start_in_office}
 
 abbrev progress_so : ℕ → ℕ → Bool → Bool → Bool → StepProgress
 progress_so taken writes checkpointed cancelled closed =
@@ -83,7 +84,7 @@ module _ (layout : Layout) (jobs : JobsView) (image : List ℕ) (desk : DeskMode
 
   pub work-found : (answer : Answer) (end : UnitEnd) → unit_end start (open_at on.step.state taken on.step.writes) ≡ end → work_of answer run desk ≡ unit_done answer pair-found.stands.row end desk
   work-found answer end is =
-      ap (λ (o : Option RunRow). option_map_or (λ row. option_map_or (λ start. option_map_or (λ progress. unit_done answer row (unit_end start progress) desk) (progress_of desk run) (done_by (Rest Idle) desk)) (start_of desk.office row) (done_by (Rest Idle) desk)) o (done_by (Rest Idle) desk)) row-found
+      ap (λ (o : Option RunRow). option_map_or (λ row. option_map_or (λ start. option_map_or (λ progress. unit_done answer row (unit_end start progress) desk) (progress_of desk run) (done_by (Rest Idle) desk)) (start_in_office desk.office row) (done_by (Rest Idle) desk)) o (done_by (Rest Idle) desk)) row-found
       ∙ ap (λ (o : Option StepStart). option_map_or (λ start. option_map_or (λ progress. unit_done answer pair-found.stands.row (unit_end start progress) desk) (progress_of desk run) (done_by (Rest Idle) desk)) o (done_by (Rest Idle) desk)) pair-found.stands.start_at
       ∙ ap (λ (o : Option StepProgress). option_map_or (λ progress. unit_done answer pair-found.stands.row (unit_end pair-found.stands.start progress) desk) o (done_by (Rest Idle) desk)) progress-found
       ∙ ap (λ (progress : StepProgress). unit_done answer pair-found.stands.row (unit_end pair-found.stands.start progress) desk) progress-is

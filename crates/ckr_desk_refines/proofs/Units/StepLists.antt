@@ -7,11 +7,11 @@ use Rattle.std.proofs.lemmas.Option.{same_Some}
 use Rattle.ckr_base.proofs.Bools.{and-first, and-second, bool-cases}
 use Rattle.ckr_base.proofs.Numbers.{equal-itself, equal-true}
 use Rattle.ckr_base.proofs.Options.{some-not-none}
-use Rattle.ckr_desk_memory.specs.EventChanges.{is_of_run, without_first}
+use Rattle.ckr_desk_memory.specs.EventChanges.{is_of_run, without_first, without_run as seen_without}
 use Rattle.ckr_desk_memory.specs.View.{RunningStepView}
 use Rattle.ckr_desk_turn.specs.Invariant.{IsGoing}
 use Rattle.ckr_points.specs.Office.{Office}
-use Rattle.ckr_desk_refines.specs.Standing.{AllStand, StandsForStep, differ, is_of_one, seen_without, steps_without}
+use Rattle.ckr_desk_refines.specs.Standing.{AllStand, StandsForStep, differ, is_of_one, steps_without}
 use Rattle.ckr_desk_turn.specs.Desk.{DeskStep, without_run}
 use Rattle.ckr_volumes.specs.declared.layout.Layout.{Layout}
 

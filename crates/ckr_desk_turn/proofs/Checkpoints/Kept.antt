@@ -1,5 +1,5 @@
 -- The data set for checkpoints keeps the entry that was written, with its point.
-use Rattle.std.proofs.Common.{◌≡◌, ℕ, Bool, true, false, cond, List, [], ◌∷◌, filter, find, refl, ap, sym, ◌∙◌, Option, Some, None}
+use Rattle.std.proofs.Common.{◌≡◌, ℕ, Bool, true, false, cond, List, [], ◌∷◌, find, refl, ap, sym, ◌∙◌, Option, Some, None}
 use Rattle.std.specs.Option.{option_map, option_map_or}
 use Rattle.ckr_base.proofs.Sequences.{find-append, find-filter-none}
 use Rattle.ckr_library.specs.NameMaps.{Name, Named, entry_at, same_name, with_changed}

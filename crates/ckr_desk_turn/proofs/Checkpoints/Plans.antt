@@ -19,7 +19,7 @@ use Rattle.ckr_desk_turn.specs.declared.plan.Plan.TheVariants.{Rest, Take}
 use Rattle.ckr_points.specs.declared.reply.Chkpt.TheVariants.{Suppressed}
 use Rattle.ckr_points.specs.declared.reply.Reply.TheVariants.{Checkpointed as CheckpointedReply, Idle}
 use Rattle.ckr_desk_turn.specs.Checkpoints.{ServedTurn, checkpoint_turn, checkpoint_unless}
-use Rattle.ckr_desk_turn.specs.Desk.{DeskModel, DeskStep, TurnDone, behind, cancel_done, checkpoint_done, done_by, jobs_of, progress_of, progress_unless, seen_from, start_of, with_change, with_progress, without_run}
+use Rattle.ckr_desk_turn.specs.Desk.{DeskModel, DeskStep, TurnDone, behind, cancel_done, checkpoint_done, done_by, jobs_of, progress_of, progress_unless, seen_from, with_change, with_progress, without_run}
 use Rattle.ckr_desk_turn.specs.Due.{next_due}
 use Rattle.ckr_desk_turn.specs.Invariant.{IsAdmittedStep, IsDesk, IsGoing}
 use Rattle.ckr_desk_turn.specs.Jobs.{is_failed, step_name_of, waiting_code}
@@ -35,6 +35,7 @@ use Rattle.ckr_desk_turn.proofs.RunningSteps.{going-within, plain_step, progress
 use Rattle.ckr_desk_turn.proofs.Turns.Due.{plan-due}
 use Rattle.ckr_desk_turn.proofs.Units.AnyUnit.{found-going}
 use Rattle.ckr_desk_turn.proofs.Moves.{with_change-found}
+use Rattle.ckr_points.specs.Payload.{start_in_office}
 
 -- ---- the running steps behind it
 
@@ -82,7 +83,7 @@ module _ (desk : DeskModel) (on : DeskStep) (going : IsGoing desk.office on) (is
   -- how a checkpoint is taken
   pub takes : progress_of desk on.run ≡ Some on.progress → taken_of on.run desk ≡ served_by going.row (checkpoint_turn desk.office.tables going.row going.start on.progress) desk
   takes known =
-      ap (λ (o : Option RunRow). option_map_or (λ row. option_map_or (λ start. option_map_or (λ progress. served_by row (checkpoint_turn desk.office.tables row start progress) desk) (progress_of desk on.run) (done_by (Rest Idle) desk)) (start_of desk.office row) (done_by (Rest Idle) desk)) o (done_by (Rest Idle) desk)) going.row_at
+      ap (λ (o : Option RunRow). option_map_or (λ row. option_map_or (λ start. option_map_or (λ progress. served_by row (checkpoint_turn desk.office.tables row start progress) desk) (progress_of desk on.run) (done_by (Rest Idle) desk)) (start_in_office desk.office row) (done_by (Rest Idle) desk)) o (done_by (Rest Idle) desk)) going.row_at
       ∙ ap (λ (o : Option StepStart). option_map_or (λ start. option_map_or (λ progress. served_by going.row (checkpoint_turn desk.office.tables going.row start progress) desk) (progress_of desk on.run) (done_by (Rest Idle) desk)) o (done_by (Rest Idle) desk)) going.start_at
       ∙ ap (λ (o : Option StepProgress). option_map_or (λ progress. served_by going.row (checkpoint_turn desk.office.tables going.row going.start progress) desk) o (done_by (Rest Idle) desk)) known
 
@@ -124,7 +125,7 @@ turn-taken desk row number committed start progress answer is within isnt none k
     let on : DeskStep = plain_step row.number progress in
     let going : IsGoing desk.office on = found-going desk.office row.number progress desk.running is.going known in
     let mine : going.row ≡ row = same_Some _ _ (sym going.row_at ∙ within.row_at) in
-    let begun : going.start ≡ start = same_Some _ _ (sym going.start_at ∙ ap (start_of desk.office) mine ∙ within.start_at) in
+    let begun : going.start ≡ start = same_Some _ _ (sym going.start_at ∙ ap (start_in_office desk.office) mine ∙ within.start_at) in
     let there : going.number ≡ number = ap step_in (sym (going-within desk.office on going).place ∙ ap place_of mine ∙ within.place) in
     ap (λ plan. carried_out answer plan desk)
     (plan-due desk row number committed start progress within isnt none known

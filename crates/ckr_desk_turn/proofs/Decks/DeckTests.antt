@@ -1,7 +1,7 @@
 -- Tests over the DDs and the steps of a deck: what no DD meets, and what each step of the job meets.
 use Rattle.std.proofs.Common.{◌≡◌, ℕ, Bool, true, false, List, [], ◌∷◌, map, Option, Some, None, find, refl, sym, cond}
 use Rattle.std.specs.List.{AllByRecursion, cons_option, filter_map, list_all}
-use Rattle.std.specs.Option.{option_map, option_or}
+use Rattle.std.specs.Option.{option_map}
 use Rattle.std.proofs.lemmas.Option.{none-some}
 use Rattle.std.proofs.lemmas.Bool.{and_from}
 use Rattle.ckr_base.proofs.Options.{option_or-none}

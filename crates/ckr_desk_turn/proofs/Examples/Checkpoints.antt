@@ -28,10 +28,10 @@ use Rattle.ckr_points.specs.declared.reply.Chkpt.{Chkpt}
 use Rattle.ckr_points.specs.declared.reply.Chkpt.TheVariants.{Done, NotWritten, Suppressed}
 use Rattle.ckr_points.specs.declared.reply.Reply.{Reply}
 use Rattle.ckr_points.specs.declared.reply.Reply.TheVariants.{Checkpointed as CheckpointedReply}
-use Rattle.ckr_desk_turn.specs.Desk.{start_of}
 use Rattle.ckr_desk_turn.specs.Due.{next_due}
 use Rattle.ckr_desk_turn.specs.EntryStates.{checkpoint_state}
 use Rattle.ckr_desk_turn.specs.Units.{StepProgress, arrived}
+use Rattle.ckr_points.specs.Payload.{start_in_office}
 
 -- ---- identifiers
 
@@ -91,7 +91,7 @@ behind_start = office (
     ∷ submitted 2 (deck checkpointed) ∷ selected 2 ∷ started 2 1 (in_one 2 0 8000 100 ∷ in_one 3 0 16000 20 ∷ []) ∷ [])
 
 abbrev of_run : {A : Type 0} → Office → (Named TableSet → RunRow → StepStart → A) → Option A
-of_run now view = option_map_or (λ row. option_map (view now.tables.sets row) (start_of now row)) (run_of now.tables 2) None
+of_run now view = option_map_or (λ row. option_map (view now.tables.sets row) (start_in_office now row)) (run_of now.tables 2) None
 
 abbrev at_twenty : StepProgress
 at_twenty = arrived 20 20

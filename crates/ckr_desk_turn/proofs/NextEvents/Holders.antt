@@ -31,7 +31,7 @@ use Rattle.ckr_rules.specs.RuleTables.{rule_number}
 use Rattle.ckr_rules.specs.declared.cases.Rule.{Rule}
 use Rattle.ckr_volumes.specs.declared.layout.Layout.{Layout}
 use Rattle.ckr_desk_turn.specs.Codes.{verdict_for}
-use Rattle.ckr_desk_turn.specs.Desk.{DeskModel, start_of}
+use Rattle.ckr_desk_turn.specs.Desk.{DeskModel}
 use Rattle.ckr_desk_turn.specs.NextEvents.{Comes, IsWithinStep}
 use Rattle.ckr_desk_turn.specs.Invariant.{IsDesk}
 use Rattle.ckr_desk_turn.proofs.Codes.{may_end}
@@ -42,7 +42,7 @@ pub record HoldsStep (office : Office) (run : ℕ) (row : RunRow) (number commit
   pub row_at : run_of office.tables run ≡ Some row
   pub holds : is_holder row.state ≡ true
   pub place : place_of row ≡ Within number committed
-  pub start_at : start_of office row ≡ Some start
+  pub start_at : start_in_office office row ≡ Some start
 
 -- a run on an initiator is one
 pub on-holder : (office : Office) (run : ℕ) (row : RunRow) (number committed : ℕ) (start : StepStart) → IsWithinStep office run row number committed start → HoldsStep office run row number committed start
@@ -69,7 +69,7 @@ module _ (layout : Layout) (office : Office) (run : ℕ) (row : RunRow) (number 
   by-holder kept use_it =
       led-by layout office run row kept.events held.row_at held.holds
       (λ leg holder.
-      let starts : start_of office row ≡ start_at leg.job leg.start number =
+      let starts : start_in_office office row ≡ start_at leg.job leg.start number =
       ap (λ (o : Option Leg). option_map_or (λ leg. start_at leg.job leg.start (step_in (place_of row))) o None) (ap (leg_of office) (kept.events.numbered run row held.row_at) ∙ holder.leg_at)
       ∙ ap (λ (place : Place). start_at leg.job leg.start (step_in place)) held.place in
       option-cases (step_at leg.job number)

@@ -15,7 +15,7 @@ use Rattle.ckr_points.specs.Events.{IsNext}
 use Rattle.ckr_points.specs.Follows.{is_free, is_in_state, is_running, is_within, may_restart_again, own_step, state_number}
 use Rattle.ckr_points.specs.Marks.{point_at}
 use Rattle.ckr_points.specs.Office.{Leg, Office, is_holder, office_after}
-use Rattle.ckr_points.specs.Payload.{is_verdict}
+use Rattle.ckr_points.specs.Payload.{is_verdict, start_in_office}
 use Rattle.ckr_points.specs.Restart.{place_of, step_in}
 use Rattle.ckr_points.specs.Rows.{RunRow, TablesModel, run_of, step_of_run}
 use Rattle.ckr_points_invariant.specs.Invariant.{step_now}
@@ -24,7 +24,6 @@ use Rattle.ckr_points_invariant.proofs.Restart.Verdicts.{restarts-again}
 use Rattle.ckr_rules.specs.declared.cases.Verdict.{Verdict}
 use Rattle.ckr_volumes.specs.declared.layout.Layout.{Layout}
 use Rattle.ckr_desk_turn.specs.Codes.{verdict_for}
-use Rattle.ckr_desk_turn.specs.Desk.{start_of}
 use Rattle.ckr_desk_turn.specs.NextEvents.{IsWithinStep}
 use Rattle.ckr_desk_turn.specs.Restarts.{IsJudged, IsJudgedOff, restart_of}
 use Rattle.ckr_desk_turn.proofs.Checkpoints.Events.{runs}
@@ -74,7 +73,7 @@ on-goes layout office row initiator number committed start within lodged = recor
       (ap (λ o. option_eq nat_eq o (Some initiator)) lodged ∙ same-number initiator));
 }
 
-abbrev pub off-goes : (layout : Layout) (office : Office) (row : RunRow) (initiator number committed : ℕ) (start : StepStart) → run_of office.tables row.number ≡ Some row → row.state ≡ Released → place_of row ≡ Within number committed → start_of office row ≡ Some start → is_free layout office.tables initiator ≡ true → MayGoOn layout office row initiator
+abbrev pub off-goes : (layout : Layout) (office : Office) (row : RunRow) (initiator number committed : ℕ) (start : StepStart) → run_of office.tables row.number ≡ Some row → row.state ≡ Released → place_of row ≡ Within number committed → start_in_office office row ≡ Some start → is_free layout office.tables initiator ≡ true → MayGoOn layout office row initiator
 off-goes layout office row initiator number committed start row_at off place start_at free = record {
   number = number;
   committed = committed;

@@ -36,7 +36,7 @@ use Rattle.ckr_points.specs.Rows.{RunRow, TableSet, TablesModel, run_of, standin
 use Rattle.ckr_points_invariant.proofs.Holders.Rows.{run-other, run-same}
 use Rattle.ckr_points_invariant.proofs.Steps.Events.{led-by}
 use Rattle.ckr_points_invariant.proofs.Steps.Walks.{start_at-of}
-use Rattle.ckr_desk_turn.specs.Allocation.{allocation_of, holdings, items_in}
+use Rattle.ckr_desk_turn.specs.Allocation.{allocation_of, items_in}
 use Rattle.ckr_desk_turn.specs.Plans.{is_within as is_planned}
 use Rattle.ckr_desk_turn.specs.declared.failed_run.FailedRun.{FailedRun}
 use Rattle.ckr_desk_turn.specs.Desk.{DeskModel, at_first, behind}
@@ -50,6 +50,7 @@ use Rattle.ckr_desk_turn.proofs.Readiness.{kept-on}
 use Rattle.ckr_desk_turn.proofs.RunningSteps.{nothing-between}
 use Rattle.ckr_points_invariant.specs.KeptEvents.{AreKept}
 use Rattle.ckr_points_invariant.specs.RunningSteps.{its_start}
+use Rattle.ckr_points.specs.Staleness.{held_sets}
 
 -- nothing is written before the first record
 nothing-yet : (case : ProgramCase) → 0 ≡ length (upto case 0)
@@ -105,7 +106,7 @@ module _ (layout : Layout) (tables : TablesModel) (row : RunRow) (stand : EachEn
       tables.sets items stand got
 
   its-flawless : flaws_in its_placed ≡ []
-  its-flawless = no_flaw layout (stamp_of owned its_step) its_placed (holdings tables.sets) (done-so _ items got)
+  its-flawless = no_flaw layout (stamp_of owned its_step) its_placed (held_sets tables.sets) (done-so _ items got)
 
   -- what the allocation of its step gives follows
   pub started-follows : follows layout tables (StartedEvent row.number its_step (record { items = items })) None ≡ true

@@ -29,25 +29,26 @@ use Rattle.ckr_volumes.specs.Layouts.{StandsIn, lie_apart}
 use Rattle.ckr_points.specs.Tables.{fresh_table, part_of, parts_from}
 use Rattle.ckr_points.specs.Follows.{are_items, are_made_clear, is_part_whole, items_of, lies_clear, made_dds, part_numbers, stands_in}
 use Rattle.ckr_points.specs.Rows.{TableSet, holding_of}
-use Rattle.ckr_desk_turn.specs.Allocation.{holdings, items_in}
+use Rattle.ckr_desk_turn.specs.Allocation.{items_in}
 use Rattle.ckr_desk_turn.proofs.Start.NewParts.{IsNewPart, new-parts}
+use Rattle.ckr_points.specs.Staleness.{held_sets}
 
 -- ---- the data sets of the tables as the library has them
 
-holdings-with : (name : Name) (table : TableSet) (sets : Named TableSet) → holdings (with_entry name table sets) ≡ with_entry name (holding_of table) (holdings sets)
+holdings-with : (name : Name) (table : TableSet) (sets : Named TableSet) → held_sets (with_entry name table sets) ≡ with_entry name (holding_of table) (held_sets sets)
 holdings-with name table [] = refl
 holdings-with name table (entry ∷ rest) =
-    elim (name_cmp name entry.0) as (λ r. holdings (by_order r ((name, table) ∷ entry ∷ rest) ((entry.0, table) ∷ rest) (entry ∷ with_entry name table rest)) ≡ by_order r ((name, holding_of table) ∷ holdings (entry ∷ rest)) ((entry.0, holding_of table) ∷ holdings rest) ((entry.0, holding_of entry.1) ∷ with_entry name (holding_of table) (holdings rest))) [
+    elim (name_cmp name entry.0) as (λ r. held_sets (by_order r ((name, table) ∷ entry ∷ rest) ((entry.0, table) ∷ rest) (entry ∷ with_entry name table rest)) ≡ by_order r ((name, holding_of table) ∷ held_sets (entry ∷ rest)) ((entry.0, holding_of table) ∷ held_sets rest) ((entry.0, holding_of entry.1) ∷ with_entry name (holding_of table) (held_sets rest))) [
       | Less ↦ refl
       | Equal ↦ refl
       | Greater ↦ ap (λ others. (entry.0, holding_of entry.1) ∷ others) (holdings-with name table rest)
     ]
 
-holdings-stand : (layout : Layout) (sets : Named TableSet) → EachEntry (λ (table : TableSet). StandsIn layout table.set) sets → EachEntry (λ (h : Holding). StandsIn layout h.set) (holdings sets)
+holdings-stand : (layout : Layout) (sets : Named TableSet) → EachEntry (λ (table : TableSet). StandsIn layout table.set) sets → EachEntry (λ (h : Holding). StandsIn layout h.set) (held_sets sets)
 holdings-stand layout [] stand = tt
 holdings-stand layout (entry ∷ rest) stand = (stand.0, holdings-stand layout rest stand.1)
 
-holdings-clear : (set : DataSet) (sets : Named TableSet) → list_all (λ (entry : Name × Holding). lie_apart set entry.1.set) (holdings sets) ≡ lies_clear sets set
+holdings-clear : (set : DataSet) (sets : Named TableSet) → list_all (λ (entry : Name × Holding). lie_apart set entry.1.set) (held_sets sets) ≡ lies_clear sets set
 holdings-clear set [] = refl
 holdings-clear set (entry ∷ rest) = ap (λ b. lie_apart set entry.1.set && b) (holdings-clear set rest)
 
@@ -111,7 +112,7 @@ module _ (layout : Layout) (stamp : Stamp) where
 
   -- what follows of the DDs behind one
   abbrev Rest : List DdAllotment → ℕ → Type 0
-  Rest rest low = (sets : Named TableSet) (items : List Made) → Stand sets → items_in (allocated_all layout stamp rest (holdings sets)) ≡ Ok items → AreMade layout stamp low rest sets items
+  Rest rest low = (sets : Named TableSet) (items : List Made) → Stand sets → items_in (allocated_all layout stamp rest (held_sets sets)) ≡ Ok items → AreMade layout stamp low rest sets items
 
   weaker-whole : (one : DdAllotment) (rest : List DdAllotment) (items : List Made) → list_all (is_part_whole rest) items ≡ true → list_all (is_part_whole (one ∷ rest)) items ≡ true
   weaker-whole one rest items whole =
@@ -120,10 +121,10 @@ module _ (layout : Layout) (stamp : Stamp) where
 
   -- a DD whose data set is found
   found-made : (dd : Dd) (number : ℕ) (name : Name) (rest : List DdAllotment) (low : ℕ) → low ≤ number → Rest rest (suc number) → (sets : Named TableSet) (items : List Made) → Stand sets
-      → items_in (allocated_all layout stamp (record { dd = dd; number = number; name = name; allotment = found } ∷ rest) (holdings sets)) ≡ Ok items
+      → items_in (allocated_all layout stamp (record { dd = dd; number = number; name = name; allotment = found } ∷ rest) (held_sets sets)) ≡ Ok items
       → AreMade layout stamp low (record { dd = dd; number = number; name = name; allotment = found } ∷ rest) sets items
   found-made dd number name rest low high more sets items stand is =
-      by (allocated_dd layout (holdings sets) dd name found) (λ parts e. found-none layout dd _ parts e) is
+      by (allocated_dd layout (held_sets sets) dd name found) (λ parts e. found-none layout dd _ parts e) is
     where
       one : DdAllotment
       one = record { dd = dd; number = number; name = name; allotment = found }
@@ -138,26 +139,26 @@ module _ (layout : Layout) (stamp : Stamp) where
             above = each-implies (λ (item : Made). suc number ≤ item.dd) (λ item. low ≤ item.dd) rest_items (λ item above. omega (arith, above, high)) are.above;
           })
 
-      by : (parts : Result (List Part) Cause) → ((list : List Part) → parts ≡ Ok list → list ≡ []) → items_in (then_more number parts (λ parts. allocated_all layout stamp rest (with_new stamp dd name parts (holdings sets)))) ≡ Ok items → AreMade layout stamp low (one ∷ rest) sets items
+      by : (parts : Result (List Part) Cause) → ((list : List Part) → parts ≡ Ok list → list ≡ []) → items_in (then_more number parts (λ parts. allocated_all layout stamp rest (with_new stamp dd name parts (held_sets sets)))) ≡ Ok items → AreMade layout stamp low (one ∷ rest) sets items
       by (Err cause) none is = cc
       by (Ok parts) none is =
-          items-behind (map (made_of number) parts) (allocated_all layout stamp rest (with_new stamp dd name parts (holdings sets))) items is
+          items-behind (map (made_of number) parts) (allocated_all layout stamp rest (with_new stamp dd name parts (held_sets sets))) items is
           (λ rest_items same got.
           let empty : parts ≡ [] = none parts refl in
           behind-none rest_items (same ∙ ap (λ (list : List Part). map (made_of number) list ++ rest_items) empty)
-          (more sets rest_items stand (sym (ap (λ (list : List Part). items_in (allocated_all layout stamp rest (with_new stamp dd name list (holdings sets)))) empty) ∙ got)))
+          (more sets rest_items stand (sym (ap (λ (list : List Part). items_in (allocated_all layout stamp rest (with_new stamp dd name list (held_sets sets)))) empty) ∙ got)))
 
   -- a DD that makes its data set
   made-made : (dd : Dd) (number : ℕ) (name : Name) (rest : List DdAllotment) (low : ℕ) → low ≤ number → fits_dd dd ≡ true → 1 ≤ space_of dd → Rest rest (suc number) → (sets : Named TableSet) (items : List Made) → Stand sets
-      → items_in (allocated_all layout stamp (record { dd = dd; number = number; name = name; allotment = made } ∷ rest) (holdings sets)) ≡ Ok items
+      → items_in (allocated_all layout stamp (record { dd = dd; number = number; name = name; allotment = made } ∷ rest) (held_sets sets)) ≡ Ok items
       → AreMade layout stamp low (record { dd = dd; number = number; name = name; allotment = made } ∷ rest) sets items
   made-made dd number name rest low high fits some more sets items stand is =
-      by (parts_for layout (holdings sets) dd dd.volumes.items) refl is
+      by (parts_for layout (held_sets sets) dd dd.volumes.items) refl is
     where
       one : DdAllotment
       one = record { dd = dd; number = number; name = name; allotment = made }
 
-      with-part : (part : Part) (rest_items : List Made) → IsNewPart layout (holdings sets) stamp dd part → items ≡ made_of number part ∷ rest_items → AreMade layout stamp (suc number) rest (with_entry name (fresh_table stamp one (part ∷ [])) sets) rest_items → AreMade layout stamp low (one ∷ rest) sets items
+      with-part : (part : Part) (rest_items : List Made) → IsNewPart layout (held_sets sets) stamp dd part → items ≡ made_of number part ∷ rest_items → AreMade layout stamp (suc number) rest (with_entry name (fresh_table stamp one (part ∷ [])) sets) rest_items → AreMade layout stamp low (one ∷ rest) sets items
       with-part part rest_items new same are =
           let again : part_of (made_of number part) ≡ part =
           ap (λ p. part_of (made_of number p)) new.one ∙ part-again number new.volume (space_of dd) new.start ∙ sym new.one in
@@ -188,35 +189,35 @@ module _ (layout : Layout) (stamp : Stamp) where
           other : (one n : ℕ) → suc one ≤ n → (one == n) ≡ false
           other one n above = grind (arith, nat_tests)
 
-      by : (parts : Result (List Part) Cause) → parts_for layout (holdings sets) dd dd.volumes.items ≡ parts → items_in (then_more number parts (λ parts. allocated_all layout stamp rest (with_new stamp dd name parts (holdings sets)))) ≡ Ok items → AreMade layout stamp low (one ∷ rest) sets items
+      by : (parts : Result (List Part) Cause) → parts_for layout (held_sets sets) dd dd.volumes.items ≡ parts → items_in (then_more number parts (λ parts. allocated_all layout stamp rest (with_new stamp dd name parts (held_sets sets)))) ≡ Ok items → AreMade layout stamp low (one ∷ rest) sets items
       by (Err cause) e is = cc
       by (Ok parts) e is =
-          new-parts layout (holdings sets) stamp dd fits some (holdings-stand layout sets stand) parts e
+          new-parts layout (held_sets sets) stamp dd fits some (holdings-stand layout sets stand) parts e
           (λ part single new.
-          items-behind (map (made_of number) parts) (allocated_all layout stamp rest (with_new stamp dd name parts (holdings sets))) items is
+          items-behind (map (made_of number) parts) (allocated_all layout stamp rest (with_new stamp dd name parts (held_sets sets))) items is
           (λ rest_items same got.
           with-part part rest_items new (same ∙ ap (λ (list : List Part). map (made_of number) list ++ rest_items) single)
           (more (with_entry name (fresh_table stamp one (part ∷ [])) sets) rest_items
           (each-with_entry (λ (table : TableSet). StandsIn layout table.set) name (fresh_table stamp one (part ∷ [])) sets new.stands stand)
           (ap (λ all. items_in (allocated_all layout stamp rest all)) (holdings-with name (fresh_table stamp one (part ∷ [])) sets)
-          ∙ sym (ap (λ (list : List Part). items_in (allocated_all layout stamp rest (with_new stamp dd name list (holdings sets)))) single) ∙ got))))
+          ∙ sym (ap (λ (list : List Part). items_in (allocated_all layout stamp rest (with_new stamp dd name list (held_sets sets)))) single) ∙ got))))
 
   one-made : (dd : Dd) (number : ℕ) (name : Name) (allotment : AllotmentModel) (rest : List DdAllotment) (low : ℕ) → low ≤ number → IsAsked (record { dd = dd; number = number; name = name; allotment = allotment }) → Rest rest (suc number) → (sets : Named TableSet) (items : List Made) → Stand sets
-      → items_in (allocated_all layout stamp (record { dd = dd; number = number; name = name; allotment = allotment } ∷ rest) (holdings sets)) ≡ Ok items
+      → items_in (allocated_all layout stamp (record { dd = dd; number = number; name = name; allotment = allotment } ∷ rest) (held_sets sets)) ≡ Ok items
       → AreMade layout stamp low (record { dd = dd; number = number; name = name; allotment = allotment } ∷ rest) sets items
   one-made dd number name found rest low high asks more sets items stand is = found-made dd number name rest low high more sets items stand is
   one-made dd number name made rest low high asks more sets items stand is = made-made dd number name rest low high asks.fits (asks.space refl) more sets items stand is
   one-made dd number name (refused flaw) rest low high asks more sets items stand is = cc
 
   -- what all the DDs make follows
-  pub all-made : (low : ℕ) (all : List DdAllotment) → Rises low all → AllByRecursion IsAsked all → (sets : Named TableSet) (items : List Made) → Stand sets → items_in (allocated_all layout stamp all (holdings sets)) ≡ Ok items → AreMade layout stamp low all sets items
+  pub all-made : (low : ℕ) (all : List DdAllotment) → Rises low all → AllByRecursion IsAsked all → (sets : Named TableSet) (items : List Made) → Stand sets → items_in (allocated_all layout stamp all (held_sets sets)) ≡ Ok items → AreMade layout stamp low all sets items
   all-made low [] rises asks sets items stand is =
       subst (AreMade layout stamp low [] sets) (let none : [] ≡ items = cc in none) (record { numbers = refl; whole = refl; clear = λ others agree. refl; above = tt })
   all-made low (one ∷ rest) rises asks sets items stand is =
       one-made one.dd one.number one.name one.allotment rest low rises.0 asks.0
       (λ sets items stand is. all-made (suc one.number) rest rises.1 asks.1 sets items stand is) sets items stand is
 
-  pub items-follow : (low : ℕ) (all : List DdAllotment) → Rises low all → AllByRecursion IsAsked all → (sets : Named TableSet) (items : List Made) → Stand sets → items_in (allocated_all layout stamp all (holdings sets)) ≡ Ok items → are_items layout stamp sets all items ≡ true
+  pub items-follow : (low : ℕ) (all : List DdAllotment) → Rises low all → AllByRecursion IsAsked all → (sets : Named TableSet) (items : List Made) → Stand sets → items_in (allocated_all layout stamp all (held_sets sets)) ≡ Ok items → are_items layout stamp sets all items ≡ true
   items-follow low all rises asks sets items stand is =
       let are : AreMade layout stamp low all sets items = all-made low all rises asks sets items stand is in
       and_from _ _ (and_from _ _ are.numbers are.whole) (are.clear items (λ n above. refl))

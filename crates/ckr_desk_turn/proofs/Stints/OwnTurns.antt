@@ -48,7 +48,7 @@ use Rattle.ckr_desk_turn.specs.declared.plan.Plan.TheVariants.{Rest, Tell}
 use Rattle.ckr_desk_turn.specs.Allocation.{allocation_of}
 use Rattle.ckr_desk_turn.specs.Checkpoints.{checkpoint_event, checkpoint_fits, checkpoint_try, checkpoint_turn, checkpoint_unless, entry_bytes, entry_end, entry_place, lengths_with, next_id}
 use Rattle.ckr_desk_turn.specs.Codes.{initiator_of, reached_by, running_reached}
-use Rattle.ckr_desk_turn.specs.Desk.{DeskModel, DeskStep, TurnDone, at_first, behind, cancel_done, checkpoint_done, done_by, jobs_of, progress_of, progress_unless, seen, seen_from, start_of, unit_done, with_progress, without_run, work_of}
+use Rattle.ckr_desk_turn.specs.Desk.{DeskModel, DeskStep, TurnDone, at_first, behind, cancel_done, checkpoint_done, done_by, jobs_of, progress_of, progress_unless, seen, seen_from, unit_done, with_progress, without_run, work_of}
 use Rattle.ckr_desk_turn.specs.Due.{next_due}
 use Rattle.ckr_desk_turn.specs.Invariant.{HasCome, IsDesk, IsGoing, IsOpen, is_accounted, next_writes}
 use Rattle.ckr_desk_turn.specs.Jobs.{TurnStep}
@@ -76,6 +76,7 @@ use Rattle.ckr_desk_turn.proofs.Stints.Codes.{IsLegTurn, cost, cost_by, code-car
 use Rattle.ckr_desk_turn.proofs.Stints.OtherTurns.{tables-behind}
 use Rattle.ckr_desk_turn.proofs.Stints.OwnRows.{GoesTo, goes-cancelled, goes-checkpointed, goes-rewritten, goes-started, goes-step_ended, on-still}
 use Rattle.ckr_desk_turn.proofs.Stints.Steps.{left-cancelled, left-checkpointed, left-closed, left-started, left-taken, some-left, step_left, turns_of}
+use Rattle.ckr_points.specs.Payload.{start_in_office}
 
 -- a turn that isn't a wait, behind which a run stands so
 goes-by : (i run : ℕ) (leg : Leg) (most : ℕ) (done : TurnDone) (next : RunRow) → run_on_initiator done.desk.office.tables i ≡ Some next → next.number ≡ run → is_wait done.reply ≡ false
@@ -236,7 +237,7 @@ module _ (desk : DeskModel) (is : IsDesk desk) (i : ℕ) (row : RunRow) (on : ru
     mine = some-one going.row row (run_of desk.office.tables run) going.row_at at
 
     its-start : going.start ≡ start
-    its-start = same_Some _ _ (sym going.start_at ∙ ap (start_of desk.office) mine ∙ within.start_at)
+    its-start = same_Some _ _ (sym going.start_at ∙ ap (start_in_office desk.office) mine ∙ within.start_at)
 
     module _ (due : next_due start progress ≡ OneUnit) where
       opened : IsOpen start progress
@@ -288,7 +289,7 @@ module _ (desk : DeskModel) (is : IsDesk desk) (i : ℕ) (row : RunRow) (on : ru
 
       works : work_of answer run desk ≡ unit_done answer row (unit_end start progress) desk
       works =
-          ap (λ (o : Option RunRow). option_map_or (λ row. option_map_or (λ start. option_map_or (λ progress. unit_done answer row (unit_end start progress) desk) (progress_of desk run) (done_by (Rest Idle) desk)) (start_of desk.office row) (done_by (Rest Idle) desk)) o (done_by (Rest Idle) desk)) at
+          ap (λ (o : Option RunRow). option_map_or (λ row. option_map_or (λ start. option_map_or (λ progress. unit_done answer row (unit_end start progress) desk) (progress_of desk run) (done_by (Rest Idle) desk)) (start_in_office desk.office row) (done_by (Rest Idle) desk)) o (done_by (Rest Idle) desk)) at
           ∙ ap (λ (o : Option StepStart). option_map_or (λ start. option_map_or (λ progress. unit_done answer row (unit_end start progress) desk) (progress_of desk run) (done_by (Rest Idle) desk)) o (done_by (Rest Idle) desk)) within.start_at
           ∙ ap (λ (o : Option StepProgress). option_map_or (λ progress. unit_done answer row (unit_end start progress) desk) o (done_by (Rest Idle) desk)) known
 

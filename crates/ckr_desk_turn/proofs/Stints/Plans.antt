@@ -38,12 +38,13 @@ use Rattle.ckr_desk_turn.specs.declared.plan.Plan.TheVariants.{Ask, Rest, Tell, 
 use Rattle.ckr_desk_turn.specs.Allocation.{allocation_of}
 use Rattle.ckr_desk_turn.specs.Codes.{CodePlaceModel, asked_at_entry, code_plan, ended_by, initiator_of, judged_plan, reached_by, verdict_for}
 use Rattle.ckr_desk_turn.specs.Deferred.{continued_at_entry, continued_by, deferred_verdict, queued_plan}
-use Rattle.ckr_desk_turn.specs.Desk.{DeskModel, TurnDone, done_by, progress_of, start_of}
+use Rattle.ckr_desk_turn.specs.Desk.{DeskModel, TurnDone, done_by, progress_of}
 use Rattle.ckr_desk_turn.specs.Inquiries.{decide, decided}
 use Rattle.ckr_desk_turn.specs.Jobs.{TurnJobs, TurnStep, effect_entry, is_failed, running_in, waiting_code}
 use Rattle.ckr_desk_turn.specs.Stints.{begun}
 use Rattle.ckr_desk_turn.specs.Units.{StepProgress, UnitOutcome, abended, unit_plan, went}
 use Rattle.ckr_desk_turn.specs.Plans.{allocation_ended, between_plan, checkpoint_plan, chosen_plan, due_plan, fail_plan, is_within, placed_plan, run_plan, running_plan, start_plan, suppressed_plan, system_failure, unmarked_plan}
+use Rattle.ckr_points.specs.Payload.{start_in_office}
 
 -- an event of this run, which comes to no initiator but this one
 abbrev pub is_event_by : ℕ → ℕ → Event → Bool
@@ -231,11 +232,11 @@ unit-by layout jobs row step (abended code) = code-by jobs.tables row (initiator
 
 -- what holds of whatever the running step of a run does, and where it has none
 pub by-acting : (P : TurnDone → Type 0) (desk : DeskModel) (row : RunRow) → run_of desk.office.tables row.number ≡ Some row → P (done_by (Rest Idle) desk) → (act : RunRow → StepStart → StepProgress → TurnDone) → ((start : StepStart) (progress : StepProgress) → P (act row start progress)) → (job : ℕ) → job ≡ row.number
-    → P (option_map_or (λ row. option_map_or (λ start. option_map_or (λ progress. act row start progress) (progress_of desk job) (done_by (Rest Idle) desk)) (start_of desk.office row) (done_by (Rest Idle) desk)) (run_of desk.office.tables job) (done_by (Rest Idle) desk))
+    → P (option_map_or (λ row. option_map_or (λ start. option_map_or (λ progress. act row start progress) (progress_of desk job) (done_by (Rest Idle) desk)) (start_in_office desk.office row) (done_by (Rest Idle) desk)) (run_of desk.office.tables job) (done_by (Rest Idle) desk))
 by-acting P desk row at none act each job its =
-    subst (λ (o : Option RunRow). P (option_map_or (λ row. option_map_or (λ start. option_map_or (λ progress. act row start progress) (progress_of desk job) (done_by (Rest Idle) desk)) (start_of desk.office row) (done_by (Rest Idle) desk)) o (done_by (Rest Idle) desk)))
+    subst (λ (o : Option RunRow). P (option_map_or (λ row. option_map_or (λ start. option_map_or (λ progress. act row start progress) (progress_of desk job) (done_by (Rest Idle) desk)) (start_in_office desk.office row) (done_by (Rest Idle) desk)) o (done_by (Rest Idle) desk)))
     (sym (ap (run_of desk.office.tables) its ∙ at))
-    (by-start (start_of desk.office row))
+    (by-start (start_in_office desk.office row))
   where
     by-progress : (start : StepStart) (progress : Option StepProgress) → P (option_map_or (λ progress. act row start progress) progress (done_by (Rest Idle) desk))
     by-progress start None = none

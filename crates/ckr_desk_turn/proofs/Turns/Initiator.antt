@@ -36,7 +36,7 @@ use Rattle.ckr_desk_turn.specs.declared.plan.Plan.TheVariants.{Rest, Tell}
 use Rattle.ckr_points.specs.declared.reply.How.TheVariants.{Completed}
 use Rattle.ckr_points.specs.declared.reply.Reply.TheVariants.{Idle, JobEnded, NothingToFail, Started}
 use Rattle.ckr_desk_turn.specs.declared.reply.Turn.{Turn}
-use Rattle.ckr_desk_turn.specs.Allocation.{allocation_of, cause_numbers, holdings, items_in}
+use Rattle.ckr_desk_turn.specs.Allocation.{allocation_of, cause_numbers, items_in}
 use Rattle.ckr_desk_turn.specs.Select.{is_on, may_select, next_run, run_on_initiator}
 use Rattle.ckr_desk_turn.specs.Codes.{code_plan, initiator_of, reached_by}
 use Rattle.ckr_desk_turn.specs.Desk.{DeskModel, jobs_of}
@@ -57,6 +57,7 @@ use Rattle.ckr_desk_turn.proofs.RunningSteps.{FoundStep, found-step, going-withi
 use Rattle.ckr_desk_turn.proofs.Opening.{running-stands}
 use Rattle.ckr_desk_turn.proofs.Start.Invariant.{not-failed, planned-within, started-comes, started-kept}
 use Rattle.ckr_desk_turn.proofs.Turns.WithinStep.{PlanKeeps, step-keeps}
+use Rattle.ckr_points.specs.Staleness.{held_sets}
 
 -- fewer marks than none
 pub fewer-marked : (failed : List FailedRun) (run : ℕ) (also : FailedRun → Bool) → list_any (λ (one : FailedRun). one.run == run) failed ≡ false → list_any (λ (one : FailedRun). one.run == run && also one) failed ≡ false
@@ -148,7 +149,7 @@ module _ (answer : Answer) (desk : DeskModel) (is : IsDesk desk) (i : ℕ) (row 
   pub refused-keeps : (owned : OwnedStep) (refusal : Refusal) → own_step row ≡ Some owned → allocation_of desk.layout row owned (step_in (place_of row)) desk.office.tables ≡ Err refusal → PlanKeeps answer desk (start_plan desk.layout (jobs_of desk) row owned (step_in (place_of row)))
   refused-keeps owned refusal there failed =
       let numbers = cause_numbers refusal.cause in
-      let inside : (1 ≤ refusal.dd) × (refusal.dd ≤ length owned.step.dds) = refused-inside table_ways (standing_of row desk.office.tables) desk.layout (stamp_of owned (step_in (place_of row))) row.job.root owned (holdings desk.office.tables.sets) refusal (refused-all _ failed) in
+      let inside : (1 ≤ refusal.dd) × (refusal.dd ≤ length owned.step.dds) = refused-inside table_ways (standing_of row desk.office.tables) desk.layout (stamp_of owned (step_in (place_of row))) row.job.root owned (held_sets desk.office.tables.sets) refusal (refused-all _ failed) in
       let may : may_come desk.layout desk.office (EndedEvent row.number (AllocationEnding refusal.dd numbers.0 numbers.1 numbers.2), None) ≡ true = refused_comes desk i row owned refusal.dd numbers.0 numbers.1 numbers.2 is found there inside.0 inside.1 in
       subst (λ (r : Result (List Made) Refusal). PlanKeeps answer desk (elim r [
         | Err refusal ↦ allocation_ended row owned refusal.dd refusal.cause

@@ -44,7 +44,7 @@ use Rattle.ckr_desk_turn.specs.declared.taking.Taking.TheVariants.{Awaited}
 use Rattle.ckr_desk_turn.specs.Allocation.{allocation_of}
 use Rattle.ckr_desk_turn.specs.Checkpoints.{checkpoint_fits, checkpoint_try, checkpoint_turn, checkpoint_unless}
 use Rattle.ckr_desk_turn.specs.Codes.{CodePlaceModel, asked_at_entry, code_plan, ended_by, initiator_of, judged_plan, reached_by, verdict_for}
-use Rattle.ckr_desk_turn.specs.Desk.{DeskModel, TurnDone, answered, done_by, jobs_of, progress_of, seen, start_of, unit_done, with_progress, work_of}
+use Rattle.ckr_desk_turn.specs.Desk.{DeskModel, TurnDone, answered, done_by, jobs_of, progress_of, seen, unit_done, with_progress, work_of}
 use Rattle.ckr_desk_turn.specs.Inquiries.{awaits}
 use Rattle.ckr_desk_turn.specs.Invariant.{IsDesk}
 use Rattle.ckr_desk_turn.specs.Jobs.{TurnJobs, TurnStep, effect_entry, is_failed, running_in, waiting_code}
@@ -59,6 +59,7 @@ use Rattle.ckr_desk_turn.proofs.NextEvents.BetweenSteps.{next_cases, row_of_foun
 use Rattle.ckr_desk_turn.proofs.Select.{code_while}
 use Rattle.ckr_desk_turn.proofs.Units.AnyUnit.{found-going}
 use Rattle.ckr_desk_turn.proofs.Turns.Verdicts.{entered, not-sixth}
+use Rattle.ckr_points.specs.Payload.{start_in_office}
 
 -- ---- what is the operator's alone
 
@@ -290,10 +291,10 @@ module _ (also : Bool) where
       by-start row (Some start) at unasked asked = by-progress row start (progress_of desk run) at refl unasked asked
 
       by-row : (row : Option RunRow) → run_of desk.office.tables run ≡ row
-          → (IsUnasked also (λ answer. option_map_or (λ row. option_map_or (λ start. option_map_or (λ progress. unit_done answer row (unit_end start progress) desk) (progress_of desk run) (done_by (Rest Idle) desk)) (start_of desk.office row) (done_by (Rest Idle) desk)) row (done_by (Rest Idle) desk)) → A)
-          → (IsAsked (λ answer. option_map_or (λ row. option_map_or (λ start. option_map_or (λ progress. unit_done answer row (unit_end start progress) desk) (progress_of desk run) (done_by (Rest Idle) desk)) (start_of desk.office row) (done_by (Rest Idle) desk)) row (done_by (Rest Idle) desk)) → A) → A
+          → (IsUnasked also (λ answer. option_map_or (λ row. option_map_or (λ start. option_map_or (λ progress. unit_done answer row (unit_end start progress) desk) (progress_of desk run) (done_by (Rest Idle) desk)) (start_in_office desk.office row) (done_by (Rest Idle) desk)) row (done_by (Rest Idle) desk)) → A)
+          → (IsAsked (λ answer. option_map_or (λ row. option_map_or (λ start. option_map_or (λ progress. unit_done answer row (unit_end start progress) desk) (progress_of desk run) (done_by (Rest Idle) desk)) (start_in_office desk.office row) (done_by (Rest Idle) desk)) row (done_by (Rest Idle) desk)) → A) → A
       by-row None at unasked asked = unasked (idle-rests desk)
-      by-row (Some row) at unasked asked = by-start row (start_of desk.office row) at unasked asked
+      by-row (Some row) at unasked asked = by-start row (start_in_office desk.office row) at unasked asked
 
   -- a checkpoint
   served-apart : (desk : DeskModel) (row : RunRow) (start : StepStart) (progress : StepProgress) → IsApart also (served_by row (checkpoint_turn desk.office.tables row start progress) desk)
@@ -321,9 +322,9 @@ module _ (also : Bool) where
       by-start row None = idle
       by-start row (Some start) = by-progress row start (progress_of desk run)
 
-      by-row : (row : Option RunRow) → IsApart also (option_map_or (λ row. option_map_or (λ start. option_map_or (λ progress. served_by row (checkpoint_turn desk.office.tables row start progress) desk) (progress_of desk run) (done_by (Rest Idle) desk)) (start_of desk.office row) (done_by (Rest Idle) desk)) row (done_by (Rest Idle) desk))
+      by-row : (row : Option RunRow) → IsApart also (option_map_or (λ row. option_map_or (λ start. option_map_or (λ progress. served_by row (checkpoint_turn desk.office.tables row start progress) desk) (progress_of desk run) (done_by (Rest Idle) desk)) (start_in_office desk.office row) (done_by (Rest Idle) desk)) row (done_by (Rest Idle) desk))
       by-row None = idle
-      by-row (Some row) = by-start row (start_of desk.office row)
+      by-row (Some row) = by-start row (start_in_office desk.office row)
 
   -- any plan
   carried-rests : {A : Type 0} (desk : DeskModel) (plan : Plan) → is_his_plan also plan ≡ false

@@ -35,7 +35,7 @@ use Rattle.ckr_desk_turn.specs.declared.plan.Plan.{Plan}
 use Rattle.ckr_desk_turn.specs.declared.plan.Plan.TheVariants.{Rest, Tell, Work, Pass, Take, Ask, Wait}
 use Rattle.ckr_points.specs.declared.reply.Reply.TheVariants.{Idle}
 use Rattle.ckr_desk_turn.specs.Checkpoints.{checkpoint_turn}
-use Rattle.ckr_desk_turn.specs.Desk.{DeskModel, TurnDone, done_by, jobs_of, progress_of, start_of, unit_done, with_progress, work_of}
+use Rattle.ckr_desk_turn.specs.Desk.{DeskModel, TurnDone, done_by, jobs_of, progress_of, unit_done, with_progress, work_of}
 use Rattle.ckr_desk_turn.specs.Inquiries.{decided}
 use Rattle.ckr_desk_turn.specs.Invariant.{IsDesk, Keeps}
 use Rattle.ckr_desk_turn.specs.NextEvents.{EventComes}
@@ -49,6 +49,7 @@ use Rattle.ckr_desk_turn.proofs.Runs.Rows.{HasRows, rows-of}
 use Rattle.ckr_desk_turn.proofs.Turns.Initiator.{turn-keeps}
 use Rattle.ckr_desk_turn.proofs.Turns.Series.{next-keeps, turn-layout, turns-keep}
 use Rattle.ckr_desk_turn.proofs.Deferred.Desks.{leg-number}
+use Rattle.ckr_points.specs.Payload.{start_in_office}
 
 -- ---- the office behind a turn is that behind its event
 
@@ -77,9 +78,9 @@ work-by answer run desk = by-row (run_of desk.office.tables run)
     by-start row None = refl
     by-start row (Some start) = by-progress row start (progress_of desk run)
 
-    by-row : (row : Option RunRow) → IsBy desk (option_map_or (λ row. option_map_or (λ start. option_map_or (λ progress. unit_done answer row (unit_end start progress) desk) (progress_of desk run) (done_by (Rest Idle) desk)) (start_of desk.office row) (done_by (Rest Idle) desk)) row (done_by (Rest Idle) desk))
+    by-row : (row : Option RunRow) → IsBy desk (option_map_or (λ row. option_map_or (λ start. option_map_or (λ progress. unit_done answer row (unit_end start progress) desk) (progress_of desk run) (done_by (Rest Idle) desk)) (start_in_office desk.office row) (done_by (Rest Idle) desk)) row (done_by (Rest Idle) desk))
     by-row None = refl
-    by-row (Some row) = by-start row (start_of desk.office row)
+    by-row (Some row) = by-start row (start_in_office desk.office row)
 
 entry-by : (event : Option Event) (desk : DeskModel) → (behind_entry event desk).office ≡ office_by event desk.office
 entry-by None desk = refl
@@ -96,9 +97,9 @@ taken-by run desk = by-row (run_of desk.office.tables run)
     by-start row None = refl
     by-start row (Some start) = by-progress row start (progress_of desk run)
 
-    by-row : (row : Option RunRow) → IsBy desk (option_map_or (λ row. option_map_or (λ start. option_map_or (λ progress. served_by row (checkpoint_turn desk.office.tables row start progress) desk) (progress_of desk run) (done_by (Rest Idle) desk)) (start_of desk.office row) (done_by (Rest Idle) desk)) row (done_by (Rest Idle) desk))
+    by-row : (row : Option RunRow) → IsBy desk (option_map_or (λ row. option_map_or (λ start. option_map_or (λ progress. served_by row (checkpoint_turn desk.office.tables row start progress) desk) (progress_of desk run) (done_by (Rest Idle) desk)) (start_in_office desk.office row) (done_by (Rest Idle) desk)) row (done_by (Rest Idle) desk))
     by-row None = refl
-    by-row (Some row) = by-start row (start_of desk.office row)
+    by-row (Some row) = by-start row (start_in_office desk.office row)
 
 plan-by : (answer : Answer) (plan : Plan) (desk : DeskModel) → IsBy desk (carried_out answer plan desk)
 plan-by answer (Rest reply) desk = refl

@@ -11,13 +11,14 @@ use Rattle.ckr_desk_turn.specs.declared.plan.Plan.{Plan}
 use Rattle.ckr_desk_turn.specs.declared.plan.Plan.TheVariants.{Rest, Tell, Work, Pass, Take, Ask, Wait}
 use Rattle.ckr_points.specs.declared.reply.Reply.TheVariants.{Idle}
 use Rattle.ckr_desk_turn.specs.Checkpoints.{checkpoint_turn}
-use Rattle.ckr_desk_turn.specs.Desk.{DeskModel, done_by, jobs_of, progress_of, start_of, unit_done, with_progress, work_of}
+use Rattle.ckr_desk_turn.specs.Desk.{DeskModel, done_by, jobs_of, progress_of, unit_done, with_progress, work_of}
 use Rattle.ckr_desk_turn.specs.Inquiries.{decided}
 use Rattle.ckr_desk_turn.specs.Taken.{behind_entry, served_by, taken_of}
 use Rattle.ckr_desk_turn.specs.Turns.{AnsweredTurn, IsAnsweredTurnOf, IsMountedTurnOf, MountedTurn, carried_out, desk_after, plan_for, turn_of}
 use Rattle.ckr_desk_turn.specs.Units.{StepProgress, UnitEnd, unit_end}
 use Rattle.ckr_desk_turn.specs.Invariant.{IsDesk, Keeps}
 use Rattle.ckr_desk_turn.proofs.Turns.Initiator.{turn-keeps}
+use Rattle.ckr_points.specs.Payload.{start_in_office}
 
 -- ---- the layout stays
 
@@ -39,9 +40,9 @@ work-layout answer run desk = by-row (run_of desk.office.tables run)
     by-start row None = refl
     by-start row (Some start) = by-progress row start (progress_of desk run)
 
-    by-row : (row : Option RunRow) → (option_map_or (λ row. option_map_or (λ start. option_map_or (λ progress. unit_done answer row (unit_end start progress) desk) (progress_of desk run) (done_by (Rest Idle) desk)) (start_of desk.office row) (done_by (Rest Idle) desk)) row (done_by (Rest Idle) desk)).desk.layout ≡ desk.layout
+    by-row : (row : Option RunRow) → (option_map_or (λ row. option_map_or (λ start. option_map_or (λ progress. unit_done answer row (unit_end start progress) desk) (progress_of desk run) (done_by (Rest Idle) desk)) (start_in_office desk.office row) (done_by (Rest Idle) desk)) row (done_by (Rest Idle) desk)).desk.layout ≡ desk.layout
     by-row None = refl
-    by-row (Some row) = by-start row (start_of desk.office row)
+    by-row (Some row) = by-start row (start_in_office desk.office row)
 
 entry-layout : (event : Option Event) (desk : DeskModel) → (behind_entry event desk).layout ≡ desk.layout
 entry-layout None desk = refl
@@ -58,9 +59,9 @@ taken-layout run desk = by-row (run_of desk.office.tables run)
     by-start row None = refl
     by-start row (Some start) = by-progress row start (progress_of desk run)
 
-    by-row : (row : Option RunRow) → (option_map_or (λ row. option_map_or (λ start. option_map_or (λ progress. served_by row (checkpoint_turn desk.office.tables row start progress) desk) (progress_of desk run) (done_by (Rest Idle) desk)) (start_of desk.office row) (done_by (Rest Idle) desk)) row (done_by (Rest Idle) desk)).desk.layout ≡ desk.layout
+    by-row : (row : Option RunRow) → (option_map_or (λ row. option_map_or (λ start. option_map_or (λ progress. served_by row (checkpoint_turn desk.office.tables row start progress) desk) (progress_of desk run) (done_by (Rest Idle) desk)) (start_in_office desk.office row) (done_by (Rest Idle) desk)) row (done_by (Rest Idle) desk)).desk.layout ≡ desk.layout
     by-row None = refl
-    by-row (Some row) = by-start row (start_of desk.office row)
+    by-row (Some row) = by-start row (start_in_office desk.office row)
 
 plan-layout : (answer : Answer) (plan : Plan) (desk : DeskModel) → (carried_out answer plan desk).desk.layout ≡ desk.layout
 plan-layout answer (Rest reply) desk = refl

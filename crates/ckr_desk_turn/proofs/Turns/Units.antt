@@ -14,7 +14,7 @@ use Rattle.ckr_meaning.proofs.Prefixes.{takes_one}
 use Rattle.ckr_points.specs.Rows.{RunRow}
 use Rattle.ckr_desk_turn.specs.declared.plan.Plan.TheVariants.{Rest, Tell}
 use Rattle.ckr_points.specs.declared.reply.Reply.TheVariants.{Idle, Worked}
-use Rattle.ckr_desk_turn.specs.Desk.{DeskModel, DeskStep, TurnDone, done_by, jobs_of, progress_of, seen, seen_from, start_of, unit_done, with_progress, work_of}
+use Rattle.ckr_desk_turn.specs.Desk.{DeskModel, DeskStep, TurnDone, done_by, jobs_of, progress_of, seen, seen_from, unit_done, with_progress, work_of}
 use Rattle.ckr_desk_turn.specs.Jobs.{TurnStep, step_name_of}
 use Rattle.ckr_desk_turn.specs.Units.{StepProgress, UnitEnd, abended, arrived, finished_by, first_rewrite, no_more_space, unit_end, updated_lrecl, went}
 use Rattle.ckr_desk_turn.specs.NextEvents.{IsWithinStep}
@@ -26,6 +26,7 @@ use Rattle.ckr_desk_turn.proofs.Rewrite.Invariant.{IsTold, rewritten-comes, rewr
 use Rattle.ckr_desk_turn.proofs.Rewrite.Event.{Rewrites}
 use Rattle.ckr_desk_turn.proofs.Rewrite.UpdateUnit.{rewrites-so, some-first}
 use Rattle.ckr_desk_turn.proofs.Units.Invariant.{ended-keeps, went-keeps}
+use Rattle.ckr_points.specs.Payload.{start_in_office}
 
 -- what a unit comes to, by whether its writes fit
 abbrev end_by : StepStart → StepProgress → Bool → UnitEnd
@@ -47,7 +48,7 @@ module _ (answer : Answer) (desk : DeskModel) (is : IsDesk desk) (on : DeskStep)
 
   works : work_of answer on.run desk ≡ unit_done answer going.row (unit_end going.start on.progress) desk
   works =
-      ap (λ (o : Option RunRow). option_map_or (λ row. option_map_or (λ start. option_map_or (λ progress. unit_done answer row (unit_end start progress) desk) (progress_of desk on.run) (done_by (Rest Idle) desk)) (start_of desk.office row) (done_by (Rest Idle) desk)) o (done_by (Rest Idle) desk)) going.row_at
+      ap (λ (o : Option RunRow). option_map_or (λ row. option_map_or (λ start. option_map_or (λ progress. unit_done answer row (unit_end start progress) desk) (progress_of desk on.run) (done_by (Rest Idle) desk)) (start_in_office desk.office row) (done_by (Rest Idle) desk)) o (done_by (Rest Idle) desk)) going.row_at
       ∙ ap (λ (o : Option StepStart). option_map_or (λ start. option_map_or (λ progress. unit_done answer going.row (unit_end start progress) desk) (progress_of desk on.run) (done_by (Rest Idle) desk)) o (done_by (Rest Idle) desk)) going.start_at
       ∙ ap (λ (o : Option StepProgress). option_map_or (λ progress. unit_done answer going.row (unit_end going.start progress) desk) o (done_by (Rest Idle) desk)) known
 

@@ -226,10 +226,6 @@ module _ (number : ℕ) (deck : Job) (orderly : is_orderly number deck ≡ true)
 
 -- ---- a DD
 
--- a written name isn't one of the desk's own
-pub written-free : (dd : Dd) (name : Name) → is_orderly_dd dd ≡ true → dd.origin ≡ NamedOrigin name → is_kept_name name ≡ false
-written-free dd name orderly is = not-true (is_kept_name name) (ap (λ origin. is_orderly_dd (record dd { origin = origin })) (sym is) ∙ orderly)
-
 -- what goes to SYSOUT is new, and kept at both ends
 pub sysout-kept : (dd : Dd) → is_orderly_dd dd ≡ true → dd.origin ≡ Sysout → (dd.disp.status ≡ New) × (dd.disp.normal ≡ Some Keep) × (dd.disp.abnormal ≡ Some Keep)
 sysout-kept dd orderly is =

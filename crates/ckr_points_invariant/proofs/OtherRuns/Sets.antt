@@ -58,9 +58,6 @@ pub same-sets : (change : RunRow → TablesModel) (row : Option RunRow) (tables 
 same-sets change None tables same = refl
 same-sets change (Some row) tables same = same row
 
-pub apart-row : (now : Office) (job : ℕ) (change : RunRow → TablesModel) → ((row : RunRow) → (change row).sets ≡ now.tables.sets) → LeavesApart now job (option_map_or change (run_of now.tables job) now.tables).sets
-apart-row now job change same name apart = ap (λ sets. entry_at sets name) (same-sets change (run_of now.tables job) now.tables same)
-
 -- the tables behind what a run's step does
 by-its-step : (tables : TablesModel) (row : RunRow) (owned : OwnedStep) (change : RunRow → OwnedStep → ℕ → TablesModel) (name : Name) (was : Option TableSet) (run : Option RunRow) → run ≡ Some row → step_of_run row (step_now row) ≡ Some owned → entry_at (change row owned (step_now row)).sets name ≡ was → entry_at (option_map_or (λ row. by_step (λ owned step. change row owned step) row tables) run tables).sets name ≡ was
 by-its-step tables row owned change name was run e found it =

@@ -1,5 +1,5 @@
 -- A run stays ready where the lengths of its step are committed.
-use Rattle.std.proofs.Common.{◌≡◌, ◌≤◌, ℕ, ◌+◌, true, false, cond, ◌&&◌, List, [], ◌∷◌, filter, ap, sym, ◌∙◌, subst, Option, Some, arith}
+use Rattle.std.proofs.Common.{◌≡◌, ◌≤◌, ℕ, ◌+◌, true, false, cond, ◌&&◌, List, [], ◌∷◌, ap, sym, ◌∙◌, subst, Option, Some, arith}
 use Rattle.std.specs.Prelude.{nat_le}
 use Rattle.std.specs.List.{find}
 use Rattle.std.specs.Option.{option_map, option_map_or}
