@@ -1,5 +1,7 @@
 pub mod WaitingRuns
 pub mod EventLaws
+pub mod EventRows
+pub mod EventCases
 pub mod KeptEvents
 pub mod EventList
 pub mod SoundEvents

@@ -1,16 +1,10 @@
 -- The events stay kept where a run's row changes alone, and where a checkpoint is taken.
-use Rattle.std.proofs.Common.{◌≡◌, ℕ, suc, Bool, true, false, cond, ◌&&◌, List, [], ◌∷◌, ◌++◌, flat_map, refl, ap, sym, ◌∙◌, subst, Option, Some, None}
-use Rattle.std.specs.Prelude.{◌==◌, nat_le}
+use Rattle.std.proofs.Common.{◌≡◌, ℕ, suc, Bool, true, false, cond, List, ◌∷◌, ◌++◌, flat_map, refl, ap, sym, ◌∙◌, subst, Option, Some, None, []}
 use Rattle.std.specs.List.{AllByRecursion}
 use Rattle.std.specs.Option.{option_map, option_map_or}
-use Rattle.std.proofs.lemmas.Bool.{false≢true}
-use Rattle.ckr_base.proofs.Bools.{and-first, and-second}
 use Rattle.ckr_base.proofs.Options.{option_map-cond}
 use Rattle.ckr_base.proofs.Sequences.{each-append, each-implies}
-use Rattle.arrayvec.specs.ArrayVec.{ArrayVec}
 use Rattle.ckr_entry.specs.declared.point.Mark.{Mark}
-use Rattle.ckr_events.specs.declared.event.Event.TheVariants.{Cancelled, Checkpointed, Released}
-use Rattle.ckr_jcl.specs.declared.deck.Job.{Job}
 use Rattle.ckr_library.specs.declared.sets.Kept.{Kept}
 use Rattle.ckr_library.specs.NameMaps.{Name, Named, same_name, entry_at, with_changed}
 use Rattle.ckr_library.proofs.Named.{at-with_changed, each-with_changed}
@@ -20,35 +14,30 @@ use Rattle.ckr_meaning.specs.EffectiveJob.{Effective, OwnedStep, is_among, names
 use Rattle.ckr_meaning.specs.declared.place.Place.{Place}
 use Rattle.ckr_meaning.specs.declared.place.Place.TheVariants.{Before, Opened, Within}
 use Rattle.ckr_meaning.specs.JobRun.{at, is_bypassed}
-use Rattle.ckr_meaning.specs.StepRun.{StepStart}
 use Rattle.ckr_volumes.specs.declared.layout.Layout.{Layout}
-use Rattle.ckr_points.specs.declared.run.RunState.{RunState}
-use Rattle.ckr_points.specs.declared.run.RunState.TheVariants.{Queued, On, Held as HeldRun, Released as ReleasedRun, Ended as EndedRun, Denied as DeniedRun, Purged as PurgedRun}
+use Rattle.ckr_points.specs.declared.run.RunState.TheVariants.{On, Released as ReleasedRun}
 use Rattle.ckr_points.specs.Tables.{after_cancelled, own_made, after_checkpointed, after_commit, entry_point, fresh_effect, is_checkpoints, kept_entry, name_with_role, with_kept_entry}
-use Rattle.ckr_points.specs.Follows.{are_lengths, is_checkpoint, is_in_state, is_running, is_within, lengths_follow, of_step, state_number}
-use Rattle.ckr_points.specs.Payload.{carries, carries_taken, commits, writes_in}
+use Rattle.ckr_points.specs.Follows.{are_lengths, is_in_state, is_within}
+use Rattle.ckr_points.specs.Payload.{commits, writes_in}
 use Rattle.ckr_points_invariant.proofs.Marks.Points.{carried-same}
 use Rattle.ckr_points_invariant.specs.Invariant.{AreStamped, IsAgreed, IsHolder, IsKept, IsKnownLeg, IsMarkedShort, IsUnderWay, IsWaiting, IsWithinStep, MarksHold, set_shape, step_now, table_shape}
 use Rattle.ckr_points_invariant.specs.RunningSteps.{IsRunning, its_start}
 use Rattle.ckr_points_library.specs.Commit.{output_names}
 use Rattle.ckr_points.specs.Marks.{made_names, point_at, present_of, carried_marks}
-use Rattle.ckr_points.specs.Office.{Leg, Office, is_holder, office_after}
-use Rattle.ckr_points.specs.Restart.{by_step, place_of, step_in}
+use Rattle.ckr_points.specs.Office.{Leg, Office, is_holder}
+use Rattle.ckr_points.specs.Restart.{place_of, step_in}
 use Rattle.ckr_points.specs.Rows.{KeptEntry, RunRow, StartPoint, TableSet, TablesModel, run_of, with_run}
-use Rattle.ckr_points.specs.Soundness.{AreLaidOut, marks_of_entries, marks_of_row, may_come}
-use Rattle.ckr_points_invariant.proofs.Decks.Events.{orderly-next, row-orderly, with-orderly}
-use Rattle.ckr_points_invariant.proofs.WaitingRuns.{follows-of, tested-run}
-use Rattle.ckr_points_invariant.proofs.Steps.Commits.{carried-of}
+use Rattle.ckr_points.specs.Soundness.{AreLaidOut, marks_of_entries, marks_of_row}
+use Rattle.ckr_points_invariant.proofs.Decks.Events.{row-orderly, with-orderly}
 use Rattle.ckr_points_invariant.proofs.Library.Extents.{laid-changed}
 use Rattle.ckr_points_invariant.proofs.Holders.JobNames.{uses-stay}
 use Rattle.ckr_points_invariant.proofs.Holders.Rows.{place-stays, run-other, run-same}
-use Rattle.ckr_points_invariant.proofs.Marks.Changes.{EachEntryHolds, all-back, all-front, holds-run, holds-sets, row-holds}
+use Rattle.ckr_points_invariant.proofs.Marks.Changes.{EachEntryHolds, all-back, all-front, holds-sets, row-holds}
 use Rattle.ckr_points_invariant.proofs.Holders.Moves.{kept-goes_on, standing-is}
 use Rattle.ckr_points_invariant.proofs.Holders.Places.{place-next}
-use Rattle.ckr_points_invariant.proofs.Steps.Events.{kept-commit, led-by, on-holds, step-by}
-use Rattle.ckr_points_invariant.proofs.Stamps.Events.{by-row, commit-holds, same_library}
+use Rattle.ckr_points_invariant.proofs.Steps.Events.{kept-commit}
+use Rattle.ckr_points_invariant.proofs.Stamps.Events.{commit-holds, same_library}
 use Rattle.ckr_points_invariant.proofs.Stamps.Tables.{marks-short, short-legs, table-short}
-use Rattle.ckr_points_invariant.proofs.Start.Event.{running-so}
 
 -- ---- a row alone
 
@@ -126,52 +115,17 @@ kept-row layout office number row next leg kept holder same holds waits =
       extents = kept.extents;
     })
 
-pub cancelled : (layout : Layout) (office : Office) (job : ℕ) (deck : Option Job) → IsKept layout office → may_come layout office (Cancelled job, deck) ≡ true → IsKept layout (office_after (Cancelled job, deck) office)
-cancelled layout office job deck kept may = record {
-  events =
-      tested-run office.tables job is_running (follows-of layout office (Cancelled job) deck may)
-      (λ row e runs.
-      let holds : is_holder row.state ≡ true = on-holds row.state (and-first (is_in_state On row) (is_within (place_of row)) runs) in
-      led-by layout office job row kept.events e holds
-      (λ leg holder.
-      subst (λ (o : Option RunRow). IsAgreed layout (record office { tables = option_map_or (λ row. after_cancelled row office.tables) o office.tables })) (sym e)
-      (kept-row layout office job row (record row { in_effect = None }) leg kept.events holder
-      (record { number = refl; deck = refl; job = refl; own_from = refl; rcs = refl; passed = refl; lost = refl; place = refl; points = refl }) holds
-      (λ off. and-second (is_in_state On row) (is_within (place_of row)) runs))));
-  stamps =
-      same_library office (option_map_or (λ row. after_cancelled row office.tables) (run_of office.tables job) office.tables) kept.stamps
-      (by-row (IsMarkedShort office) office.tables job (λ row. after_cancelled row office.tables) kept.stamps.marks
-      (λ row mine. holds-run (IsMarkedShort office) (record row { in_effect = None }) office.tables mine kept.stamps.marks));
-  decks = orderly-next office.tables (Cancelled job) deck tt kept.decks;
-}
+pub kept-withdrawn : (layout : Layout) (office : Office) (job : ℕ) (row : RunRow) (leg : Leg) → IsAgreed layout office → IsHolder office job row leg → is_within (place_of row) ≡ true → IsAgreed layout (record office { tables = after_cancelled row office.tables })
+kept-withdrawn layout office job row leg kept holder within =
+    kept-row layout office job row (record row { in_effect = None }) leg kept holder
+    (record { number = refl; deck = refl; job = refl; own_from = refl; rcs = refl; passed = refl; lost = refl; place = refl; points = refl }) holder.holds
+    (λ off. within)
 
-held-holds : (state : RunState) → (state_number state == 3) ≡ true → (is_holder state ≡ true) × ((state_number state == 2) ≡ false)
-held-holds Queued e = absurd (false≢true e)
-held-holds On e = absurd (false≢true e)
-held-holds HeldRun e = (refl, refl)
-held-holds ReleasedRun e = absurd (false≢true e)
-held-holds EndedRun e = absurd (false≢true e)
-held-holds DeniedRun e = absurd (false≢true e)
-held-holds PurgedRun e = absurd (false≢true e)
-
-pub released : (layout : Layout) (office : Office) (job : ℕ) (deck : Option Job) → IsKept layout office → may_come layout office (Released job, deck) ≡ true → IsKept layout (office_after (Released job, deck) office)
-released layout office job deck kept may = record {
-  events =
-      tested-run office.tables job (is_in_state HeldRun) (follows-of layout office (Released job) deck may)
-      (λ row e is_held.
-      let state = held-holds row.state is_held in
-      led-by layout office job row kept.events e state.0
-      (λ leg holder.
-      subst (λ (o : Option RunRow). IsAgreed layout (record office { tables = option_map_or (λ row. with_run (record row { state = ReleasedRun }) office.tables) o office.tables })) (sym e)
-      (kept-row layout office job row (record row { state = ReleasedRun }) leg kept.events holder
-      (record { number = refl; deck = refl; job = refl; own_from = refl; rcs = refl; passed = refl; lost = refl; place = refl; points = refl }) refl
-      (λ off. (kept.events.places job row leg holder).waits state.1))));
-  stamps =
-      same_library office (option_map_or (λ row. with_run (record row { state = ReleasedRun }) office.tables) (run_of office.tables job) office.tables) kept.stamps
-      (by-row (IsMarkedShort office) office.tables job (λ row. with_run (record row { state = ReleasedRun }) office.tables) kept.stamps.marks
-      (λ row mine. holds-run (IsMarkedShort office) (record row { state = ReleasedRun }) office.tables mine kept.stamps.marks));
-  decks = orderly-next office.tables (Released job) deck tt kept.decks;
-}
+pub kept-released : (layout : Layout) (office : Office) (job : ℕ) (row : RunRow) (leg : Leg) → IsAgreed layout office → IsHolder office job row leg → is_within (place_of row) ≡ true → IsAgreed layout (record office { tables = with_run (record row { state = ReleasedRun }) office.tables })
+kept-released layout office job row leg kept holder within =
+    kept-row layout office job row (record row { state = ReleasedRun }) leg kept holder
+    (record { number = refl; deck = refl; job = refl; own_from = refl; rcs = refl; passed = refl; lost = refl; place = refl; points = refl }) refl
+    (λ off. within)
 
 -- ---- a checkpoint
 
@@ -258,7 +212,7 @@ module _ (layout : Layout) (office : Office) (job : ℕ) (row : RunRow) (leg : L
   committed_kept : IsKept layout (record office { tables = done })
   committed_kept = record { events = committed_agreed; stamps = same_library office done kept.stamps done_marks; decks = with-orderly next office.tables (row-orderly office.tables job row kept.decks running.holder.row_at) kept.decks }
 
-  checked_stamps : AreStamped (record office { tables = after_checkpointed row owned (step_now row) entry taken writes lengths office.tables })
+  pub checked_stamps : AreStamped (record office { tables = after_checkpointed row owned (step_now row) entry taken writes lengths office.tables })
   checked_stamps =
       same_library office (after_checkpointed row owned (step_now row) entry taken writes lengths office.tables) kept.stamps
       (holds-sets (IsMarkedShort office) done (with_changed set (with_kept_entry new_entry) done.sets)
@@ -267,34 +221,9 @@ module _ (layout : Layout) (office : Office) (job : ℕ) (row : RunRow) (leg : L
       done_marks.entries) done_marks)
 
   -- an entry more changes no shape
-  checked_agreed : IsAgreed layout (record office { tables = after_checkpointed row owned (step_now row) entry taken writes lengths office.tables })
+  pub checked_agreed : IsAgreed layout (record office { tables = after_checkpointed row owned (step_now row) entry taken writes lengths office.tables })
   checked_agreed =
       let agreed : IsAgreed layout (record office { tables = done }) = committed_agreed in
       shaped layout (record office { tables = done }) (with_changed set (with_kept_entry new_entry) done.sets) agreed
       (λ name. shape-kept set (with_kept_entry new_entry) done.sets name (λ table. refl))
       (laid-changed layout set (with_kept_entry new_entry) done.sets (λ table. record { parts = refl; lrecl = refl }) (λ table e stands. stands) agreed.extents)
-
-pub checkpointed : (layout : Layout) (office : Office) (job taken writes place bytes : ℕ) (id : Name) (lengths : ArrayVec ℕ) (deck : Option Job) → IsKept layout office → may_come layout office (Checkpointed job id taken writes lengths place bytes, deck) ≡ true → carries layout office (Checkpointed job id taken writes lengths place bytes) deck ≡ true → IsKept layout (office_after (Checkpointed job id taken writes lengths place bytes, deck) office)
-checkpointed layout office job taken writes place bytes id lengths deck kept may carried =
-    tested-run office.tables job (λ row. is_running row && lengths_follow office.tables row lengths.items && of_step row (is_checkpoint office.tables id lengths.items place bytes row)) (follows-of layout office (Checkpointed job id taken writes lengths place bytes) deck may)
-    (λ row e passes.
-    let early : (is_running row && lengths_follow office.tables row lengths.items) ≡ true = and-first (is_running row && lengths_follow office.tables row lengths.items) (of_step row (is_checkpoint office.tables id lengths.items place bytes row)) passes in
-    let runs : is_running row ≡ true = and-first (is_running row) (lengths_follow office.tables row lengths.items) early in
-    led-by layout office job row kept.events e (on-holds row.state (and-first (is_in_state On row) (is_within (place_of row)) runs))
-    (λ leg holder.
-    step-by office.tables row lengths.items (and-second (is_running row) (lengths_follow office.tables row lengths.items) early)
-    (λ owned found are.
-    let running : IsRunning office job row leg owned (step_now row) (writes_in (place_of row)) = running-so layout office job row leg owned holder (and-second (is_in_state On row) (is_within (place_of row)) runs) found in
-    let start : StepStart = its_start leg owned (step_now row) in
-    let entry : Kept = record { id = id; run = job; place = place; bytes = bytes } in
-    let commit : commits office.tables.sets row writes lengths.items start ≡ true =
-    and-first (commits office.tables.sets row writes lengths.items start) (carries_taken taken writes start)
-    (carried-of layout office job row leg owned (step_now row) (λ row start. commits office.tables.sets row writes lengths.items start && carries_taken taken writes start) kept.events holder refl found (and-second (nat_le 1 bytes) _ carried))
-    in
-    subst (λ (o : Option RunRow). IsKept layout (record office { tables = option_map_or (λ row. by_step (λ owned step. after_checkpointed row owned step entry taken writes lengths.items office.tables) row office.tables) o office.tables })) (sym e)
-    (subst (λ (o : Option OwnedStep). IsKept layout (record office { tables = option_map_or (λ owned. after_checkpointed row owned (step_now row) entry taken writes lengths.items office.tables) o office.tables })) (sym found)
-    (record {
-      events = checked_agreed layout office job row leg owned taken writes lengths.items entry kept running commit are;
-      stamps = checked_stamps layout office job row leg owned taken writes lengths.items entry kept running commit are;
-      decks = with-orderly (next layout office job row leg owned taken writes lengths.items entry kept running commit are) office.tables (row-orderly office.tables job row kept.decks running.holder.row_at) kept.decks;
-    })))))

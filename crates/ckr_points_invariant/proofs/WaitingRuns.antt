@@ -1,15 +1,14 @@
 -- One more event of a run that holds nothing, or that is selected.
-use Rattle.std.proofs.Common.{◌≡◌, ◌≢◌, ℕ, zero, suc, Bool, true, false, ◌&&◌, not, List, [], ◌∷◌, ◌++◌, length, refl, ap, sym, ◌∙◌, subst, Option, Some, None, arith}
+use Rattle.std.proofs.Common.{◌≡◌, ◌≢◌, ℕ, zero, suc, Bool, true, false, ◌&&◌, ◌∷◌, ◌++◌, length, refl, ap, sym, ◌∙◌, subst, Option, Some, None, arith, []}
 use Rattle.std.specs.Prelude.{◌==◌}
 use Rattle.std.specs.Option.{is_none, is_some, option_map_or}
 use Rattle.std.proofs.lemmas.Bool.{false≢true}
 use Rattle.std.proofs.lemmas.Option.{slice_get_past}
 use Rattle.ckr_base.proofs.Bools.{and-first, and-second}
-use Rattle.ckr_base.proofs.Numbers.{equal-true}
 use Rattle.ckr_base.proofs.Options.{option-cases, some-not-none, some-one}
 use Rattle.ckr_base.proofs.Sequences.{find-holds, get-append-last, get-append-front}
 use Rattle.ckr_events.specs.declared.event.Event.{Event}
-use Rattle.ckr_events.specs.declared.event.Event.TheVariants.{Denied, Purged, Selected, Submitted}
+use Rattle.ckr_events.specs.declared.event.Event.TheVariants.{Selected}
 use Rattle.ckr_jcl.specs.declared.deck.Job.{Job}
 use Rattle.ckr_jcl.specs.declared.deck.Restart.{Restart}
 use Rattle.ckr_library.specs.NameMaps.{Name}
@@ -17,17 +16,17 @@ use Rattle.ckr_meaning.specs.EffectiveJob.{plain_job}
 use Rattle.ckr_meaning.specs.declared.place.Place.TheVariants.{Before}
 use Rattle.ckr_volumes.specs.declared.layout.Layout.{Layout}
 use Rattle.ckr_points.specs.declared.run.RunState.{RunState}
-use Rattle.ckr_points.specs.declared.run.RunState.TheVariants.{Queued, On, Denied as DeniedRun, Purged as PurgedRun}
+use Rattle.ckr_points.specs.declared.run.RunState.TheVariants.{Queued, On}
 use Rattle.ckr_points.specs.Tables.{after_selected, after_submitted, queued_run}
-use Rattle.ckr_points.specs.Follows.{follows, is_empty, is_in_state, may_hold, is_free, may_restart, of_run, same_restart, selected_follows}
-use Rattle.ckr_points.specs.Payload.{carries, is_formed}
+use Rattle.ckr_points.specs.Follows.{follows, is_in_state, may_hold, is_free, may_restart, of_run, same_restart, selected_follows}
+use Rattle.ckr_points.specs.Payload.{is_formed, is_orderly}
 use Rattle.ckr_points.specs.RuleCases.{is_ended}
-use Rattle.ckr_points_invariant.specs.Invariant.{AreOrderly, IsAgreed, IsKnownLeg, IsWaiting}
+use Rattle.ckr_points_invariant.specs.Invariant.{IsAgreed, IsKnownLeg, IsWaiting}
 use Rattle.ckr_points.specs.Office.{Leg, Office, is_holder, leg_by, leg_of, no_office, office_after, office_selected, with_leg}
 use Rattle.ckr_points.specs.Rows.{RunRow, TablesModel, run_of, with_row, with_run}
 use Rattle.ckr_points.specs.Soundness.{may_come, names_first_rule}
 use Rattle.ckr_points_invariant.proofs.Decks.Names.{orderly-formed}
-use Rattle.ckr_points_invariant.proofs.Select.Invariant.{chosen, kept-chosen}
+use Rattle.ckr_points_invariant.proofs.Select.Invariant.{chosen}
 use Rattle.ckr_points_invariant.proofs.Holders.Rows.{leg-number, queued-is, run-other, run-same}
 use Rattle.ckr_points_invariant.proofs.Holders.Waits.{WaitsOn, kept-waits}
 
@@ -96,16 +95,12 @@ submitted-waits layout office deck kept formed = record {
     others zero apart = refl
     others (suc place) apart = get-append-front office.tables.runs _ place (λ e. apart (ap suc e))
 
-pub kept-submitted : (layout : Layout) (office : Office) (job : ℕ) (cards : List ℕ) (deck : Option Job) → IsAgreed layout office → may_come layout office (Submitted job cards, deck) ≡ true → carries layout office (Submitted job cards) deck ≡ true → IsAgreed layout (office_after (Submitted job cards, deck) office)
-kept-submitted layout office job cards None kept may carried = absurd (false≢true carried)
-kept-submitted layout office job cards (Some deck) kept may carried =
-    let comes = follows-of layout office (Submitted job cards) (Some deck) may in
-    let number : job ≡ suc (length office.tables.runs) = equal-true job (suc (length office.tables.runs)) (and-first (job == suc (length office.tables.runs)) _ (and-first (job == suc (length office.tables.runs) && not (is_empty cards)) _ comes)) in
-    subst (λ n. IsAgreed layout (record office { tables = after_submitted n deck office.tables })) (sym number)
-    (kept-waits layout office (suc (length office.tables.runs)) (queued_run (suc (length office.tables.runs)) deck) (office.tables.runs ++ queued_run (suc (length office.tables.runs)) deck ∷ []) kept
-    (submitted-waits layout office deck kept (subst (λ n. is_formed (plain_job n deck) ≡ true) number (orderly-formed job deck carried))))
+pub kept-comes : (layout : Layout) (office : Office) (deck : Job) → IsAgreed layout office → is_orderly (suc (length office.tables.runs)) deck ≡ true → IsAgreed layout (record office { tables = after_submitted (suc (length office.tables.runs)) deck office.tables })
+kept-comes layout office deck kept orderly =
+    let next : ℕ = suc (length office.tables.runs) in
+    kept-waits layout office next (queued_run next deck) (office.tables.runs ++ queued_run next deck ∷ []) kept (submitted-waits layout office deck kept (orderly-formed next deck orderly))
 
--- ---- purged and denied
+-- ---- a run that waits goes
 
 -- a waiting run that ends so
 dropped : (layout : Layout) (office : Office) (row : RunRow) (state : RunState) → IsAgreed layout office → run_of office.tables row.number ≡ Some row → is_in_state Queued row ≡ true → is_holder state ≡ false → (is_in_state Queued (record row { state = state }) ≡ true → ⊥) → IsAgreed layout (record office { tables = with_run (record row { state = state }) office.tables })
@@ -126,19 +121,8 @@ dropped layout office row state kept row_at queued over busy =
 own-row : (layout : Layout) (office : Office) (job : ℕ) (row : RunRow) → IsAgreed layout office → run_of office.tables job ≡ Some row → run_of office.tables row.number ≡ Some row
 own-row layout office job row kept e = ap (run_of office.tables) (kept.numbered job row e) ∙ e
 
-pub kept-purged : (layout : Layout) (office : Office) (job : ℕ) (deck : Option Job) → IsAgreed layout office → may_come layout office (Purged job, deck) ≡ true → IsAgreed layout (office_after (Purged job, deck) office)
-kept-purged layout office job deck kept may =
-    tested-run office.tables job (is_in_state Queued) (follows-of layout office (Purged job) deck may)
-    (λ row e queued.
-    subst (λ (o : Option RunRow). IsAgreed layout (record office { tables = option_map_or (λ row. with_run (record row { state = PurgedRun }) office.tables) o office.tables })) (sym e)
-    (dropped layout office row PurgedRun kept (own-row layout office job row kept e) queued refl (λ again. false≢true again)))
-
-pub kept-denied : (layout : Layout) (office : Office) (job rule : ℕ) (name : Option Name) (deck : Option Job) → IsAgreed layout office → may_come layout office (Denied job rule name, deck) ≡ true → IsAgreed layout (office_after (Denied job rule name, deck) office)
-kept-denied layout office job rule name deck kept may =
-    tested-run office.tables job (λ row. is_in_state Queued row && is_some row.deck.restart) (follows-of layout office (Denied job rule name) deck may)
-    (λ row e passes.
-    subst (λ (o : Option RunRow). IsAgreed layout (record office { tables = option_map_or (λ row. with_run (record row { state = DeniedRun }) office.tables) o office.tables })) (sym e)
-    (dropped layout office row DeniedRun kept (own-row layout office job row kept e) (and-first (is_in_state Queued row) _ passes) refl (λ again. false≢true again)))
+pub kept-gone : (layout : Layout) (office : Office) (job : ℕ) (row : RunRow) (state : RunState) → IsAgreed layout office → run_of office.tables job ≡ Some row → is_in_state Queued row ≡ true → is_holder state ≡ false → is_in_state Queued (record row { state = state }) ≡ false → IsAgreed layout (record office { tables = with_run (record row { state = state }) office.tables })
+kept-gone layout office job row state kept e queued over gone = dropped layout office row state kept (own-row layout office job row kept e) queued over (λ again. false≢true (sym gone ∙ again))
 
 -- ---- selected
 
@@ -170,8 +154,3 @@ by-selected Q layout office job initiator step id deck kept may each =
     ∙ ap (λ (o : Option RunRow). let now : Office = record office { tables = with_run next office.tables; legs = option_map_or (λ row. with_leg (leg_by office row row.earlier) office.legs) o office.legs } in now) (run-same office.tables next row job e (kept.numbered job row e))
     ∙ ap (λ earlier. let now : Office = record office { tables = with_run next office.tables; legs = with_leg (leg_by office next earlier) office.legs } in now) waits.earlier))
     (each row row_at queued (no_restart layout office.tables initiator step id row passes) (and-second (is_in_state Queued row && is_free layout office.tables initiator) _ ready)))
-
-pub kept-selected : (layout : Layout) (office : Office) (job initiator step : ℕ) (id : Option Name) (deck : Option Job) → IsAgreed layout office → AreOrderly office.tables → may_come layout office (Selected job initiator 0 step id, deck) ≡ true → IsAgreed layout (office_after (Selected job initiator 0 step id, deck) office)
-kept-selected layout office job initiator step id deck kept orderly may =
-    by-selected (IsAgreed layout) layout office job initiator step id deck kept may
-    (λ row row_at queued plain free. kept-chosen layout office row initiator kept row_at queued plain free orderly)

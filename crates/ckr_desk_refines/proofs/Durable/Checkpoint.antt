@@ -48,11 +48,11 @@ pub checkpointed-stays : (layout : Layout) (office : Office) (image : List ℕ) 
 checkpointed-stays layout office image job taken writes place bytes id lengths deck kept may carried next had has =
     by-checkpointed (λ (its : Office). IsKept layout its → HasCommitted layout its image) layout office job taken writes place bytes id lengths deck kept.events may carried
     (λ row leg owned now next.
-    let running : IsRunning office job row leg owned (step_now row) (writes_in (place_of row)) = now.running in
+    let running : IsRunning office job row leg owned (step_now row) (writes_in (place_of row)) = now.at.running in
     all-stay layout (committed_office office row owned writes lengths.items) (behind_checkpoint office job id taken writes lengths.items place bytes row owned) image
-    (committed-kept layout office job row leg owned writes lengths.items kept running now.carried now.are)
+    (committed-kept layout office job row leg owned writes lengths.items kept running now.commit now.at.are)
     next (λ run led. refl)
-    (committed-has layout office job row leg owned writes lengths.items kept running now.carried now.are image had
+    (committed-has layout office job row leg owned writes lengths.items kept running now.commit now.at.are image had
     (has row (its_start leg owned (step_now row)) running.holder.row_at (its-start layout office job row leg owned kept running.holder running.found)))
     (λ name table at. entered-from name (name_with_role row.job.root owned is_checkpoints) _ (committed (output_names row.job.root owned) lengths.items office.tables.sets) table at))
     next

@@ -91,11 +91,11 @@ pub step-ended-stays : (layout : Layout) (office : Office) (image : List ℕ) (j
 step-ended-stays layout office image job step rc writes lengths deck kept may carried next had has =
     by-step-ended (λ (its : Office). IsKept layout its → HasCommitted layout its image) layout office job step rc writes lengths deck kept.events may carried
     (λ row leg owned now next.
-    let running : IsRunning office job row leg owned (step_now row) (writes_in (place_of row)) = now.running in
+    let running : IsRunning office job row leg owned (step_now row) (writes_in (place_of row)) = now.at.running in
     all-stay layout (committed_office office row owned writes lengths.items) (record office { tables = after_step_ended row owned (step_now row) rc writes lengths.items office.tables }) image
-    (committed-kept layout office job row leg owned writes lengths.items kept running now.carried now.are)
+    (committed-kept layout office job row leg owned writes lengths.items kept running now.commit now.at.are)
     next (λ run led. refl)
-    (committed-has layout office job row leg owned writes lengths.items kept running now.carried now.are image had
+    (committed-has layout office job row leg owned writes lengths.items kept running now.commit now.at.are image had
     (has row (its_start leg owned (step_now row)) running.holder.row_at (its-start layout office job row leg owned kept running.holder running.found)))
     (λ name table at. dispositions-from row owned (step_now row) false (after_commit row owned (step_now row) writes lengths.items office.tables) name table at))
     next
@@ -106,11 +106,11 @@ pub held-stays : (layout : Layout) (office : Office) (image : List ℕ) (job wri
 held-stays layout office image job writes code lengths deck kept may carried next had has =
     by-held (λ (its : Office). IsKept layout its → HasCommitted layout its image) layout office job writes code lengths deck kept.events may carried
     (λ row leg owned now next.
-    let running : IsRunning office job row leg owned (step_now row) (writes_in (place_of row)) = now.running in
+    let running : IsRunning office job row leg owned (step_now row) (writes_in (place_of row)) = now.at.running in
     all-stay layout (committed_office office row owned writes lengths.items) (behind_hold office code writes lengths.items row owned) image
-    (committed-kept layout office job row leg owned writes lengths.items kept running now.carried now.are)
+    (committed-kept layout office job row leg owned writes lengths.items kept running now.commit now.at.are)
     next (λ run led. refl)
-    (committed-has layout office job row leg owned writes lengths.items kept running now.carried now.are image had
+    (committed-has layout office job row leg owned writes lengths.items kept running now.commit now.at.are image had
     (has row (its_start leg owned (step_now row)) running.holder.row_at (its-start layout office job row leg owned kept running.holder running.found)))
     (λ name table at. (table, at, part-itself table)))
     next
@@ -150,13 +150,13 @@ pub coded-stays : (layout : Layout) (office : Office) (image : List ℕ) (job ru
 coded-stays layout office image job rule writes code lengths deck kept may carried next had has =
     by-coded (λ (its : Office). IsKept layout its → HasCommitted layout its image) layout office job rule writes code lengths deck kept.events may carried
     (λ row leg owned now next.
-    let running : IsRunning office job row leg owned (step_now row) (writes_in (place_of row)) = now.running in
+    let running : IsRunning office job row leg owned (step_now row) (writes_in (place_of row)) = now.at.running in
     let done : TablesModel = after_commit row owned (step_now row) writes lengths.items office.tables in
     let its : TablesModel = after_abnormal (record row { place = Some (Within (step_now row) writes) }) (Within (step_now row) writes) done in
     all-stay layout (committed_office office row owned writes lengths.items) (behind_end office job (Coded code rule writes lengths) its) image
-    (committed-kept layout office job row leg owned writes lengths.items kept running now.carried now.are)
+    (committed-kept layout office job row leg owned writes lengths.items kept running now.commit now.at.are)
     next (λ run led. refl)
-    (committed-has layout office job row leg owned writes lengths.items kept running now.carried now.are image had
+    (committed-has layout office job row leg owned writes lengths.items kept running now.commit now.at.are image had
     (has row (its_start leg owned (step_now row)) running.holder.row_at (its-start layout office job row leg owned kept running.holder running.found)))
     (λ name table at. abnormal-from (record row { place = Some (Within (step_now row) writes) }) (Within (step_now row) writes) done name table at))
     next

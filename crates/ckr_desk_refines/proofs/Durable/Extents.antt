@@ -117,5 +117,5 @@ pub checkpointed-lie : (layout : Layout) (now : Office) (job taken writes place 
 checkpointed-lie layout now job taken writes place bytes id lengths deck kept may carried =
     by-checkpointed (λ (its : Office). LieStill now.tables.sets its.tables.sets) layout now job taken writes place bytes id lengths deck kept.events may carried
     (λ row leg owned commits.
-    committed-lie (output_names row.job.root owned) lengths.items now.tables.sets (name_with_role row.job.root owned is_checkpoints) (with_kept_entry _) commits.are
+    committed-lie (output_names row.job.root owned) lengths.items now.tables.sets (name_with_role row.job.root owned is_checkpoints) (with_kept_entry _) commits.at.are
     (λ old table lies. still-entered _ old table lies))

@@ -36,8 +36,9 @@ use Rattle.ckr_points_invariant.proofs.Start.Event.{by-start}
 use Rattle.ckr_volumes.specs.declared.layout.Layout.{Layout}
 use Rattle.ckr_desk_refines.specs.SharedSets.{LeavesOthers}
 use Rattle.ckr_desk_refines.proofs.Durable.OtherSets.{IsLeft, abnormal-left, committed-left, disposed-left, ended-left, left-of, running-leaves, started-left, within-left}
-use Rattle.ckr_desk_refines.proofs.Durable.Office.{CommitsNow, RewritesNow, behind_end, behind_hold, by-coded, by-held, by-rewritten, by-step-ended, ended-office}
+use Rattle.ckr_desk_refines.proofs.Durable.Office.{RewritesNow, behind_end, behind_hold, by-coded, by-held, by-rewritten, by-step-ended, ended-office}
 use Rattle.ckr_desk_refines.proofs.Durable.Events.{by-run-sets}
+use Rattle.ckr_points_invariant.proofs.EventRows.{IsCommitting}
 
 -- the names of a running step are among those that its holder reaches
 pub others-of-step : (layout : Layout) (now later : Office) (run number : ℕ) (row : RunRow) (leg : Leg) (owned : OwnedStep) (step writes : ℕ) (name : Name) → IsAgreed layout now → LeavesOthers now run later → IsRunning now number row leg owned step writes → number ≢ run → is_among (names_of leg.job.root owned) name ≡ true → entry_at later.tables.sets name ≡ entry_at now.tables.sets name
@@ -91,7 +92,7 @@ others-started layout now job step items deck kept may carried =
     by-left layout now (record now { tables = after_started row owned step items.items now.tables }) job row leg kept.events starts.holder
     (λ name left. started-left layout now job row leg owned step items.items name kept.events starts left))
 
-module _ (layout : Layout) (now : Office) (job : ℕ) (row : RunRow) (leg : Leg) (owned : OwnedStep) (writes : ℕ) (lengths : List ℕ) (name : Name) (kept : IsAgreed layout now) (commits : CommitsNow now job row leg owned writes lengths) (left : IsLeft leg name) where
+module _ (layout : Layout) (now : Office) (job : ℕ) (row : RunRow) (leg : Leg) (owned : OwnedStep) (writes : ℕ) (lengths : List ℕ) (name : Name) (kept : IsAgreed layout now) (commits : IsCommitting now job row leg owned writes lengths) (left : IsLeft leg name) where
   abbrev then : Office
   then = committed_office now row owned writes lengths
 
@@ -99,13 +100,13 @@ module _ (layout : Layout) (now : Office) (job : ℕ) (row : RunRow) (leg : Leg)
   next = record row { place = Some (Within (step_now row) writes) }
 
   kept_so : IsAgreed layout then
-  kept_so = kept_then layout now job row leg owned writes lengths kept commits.running commits.carried commits.are
+  kept_so = kept_then layout now job row leg owned writes lengths kept commits.at.running commits.commit commits.at.are
 
   running_so : IsRunning then job next leg owned (step_now row) writes
-  running_so = running_then layout now job row leg owned writes lengths kept commits.running commits.carried commits.are
+  running_so = running_then layout now job row leg owned writes lengths kept commits.at.running commits.commit commits.at.are
 
   committed_so : entry_at then.tables.sets name ≡ entry_at now.tables.sets name
-  committed_so = committed-left layout now job row leg owned (step_now row) (writes_in (place_of row)) name kept commits.running left lengths
+  committed_so = committed-left layout now job row leg owned (step_now row) (writes_in (place_of row)) name kept commits.at.running left lengths
 
   step_so : (rc : ℕ) → entry_at (after_step_ended row owned (step_now row) rc writes lengths now.tables).sets name ≡ entry_at now.tables.sets name
   step_so rc = disposed-left layout then job next leg owned (step_now row) writes name kept_so running_so left false ∙ committed_so
@@ -117,7 +118,7 @@ pub others-step-ended : (layout : Layout) (now : Office) (job step rc writes : �
 others-step-ended layout now job step rc writes lengths deck kept may carried =
     by-step-ended (LeavesOthers now job) layout now job step rc writes lengths deck kept.events may carried
     (λ row leg owned commits.
-    by-left layout now (record now { tables = after_step_ended row owned (step_now row) rc writes lengths.items now.tables }) job row leg kept.events commits.running.holder
+    by-left layout now (record now { tables = after_step_ended row owned (step_now row) rc writes lengths.items now.tables }) job row leg kept.events commits.at.running.holder
     (λ name left. step_so layout now job row leg owned writes lengths.items name kept.events commits left rc))
 
 -- ---- a run is held
@@ -126,7 +127,7 @@ pub others-held : (layout : Layout) (now : Office) (job writes : ℕ) (code : Co
 others-held layout now job writes code lengths deck kept may carried =
     by-held (LeavesOthers now job) layout now job writes code lengths deck kept.events may carried
     (λ row leg owned commits.
-    by-left layout now (behind_hold now code writes lengths.items row owned) job row leg kept.events commits.running.holder
+    by-left layout now (behind_hold now code writes lengths.items row owned) job row leg kept.events commits.at.running.holder
     (λ name left. committed_so layout now job row leg owned writes lengths.items name kept.events commits left))
 
 -- ---- a run ends
@@ -135,7 +136,7 @@ pub others-coded : (layout : Layout) (now : Office) (job rule writes : ℕ) (cod
 others-coded layout now job rule writes code lengths deck kept may carried =
     by-coded (LeavesOthers now job) layout now job rule writes code lengths deck kept.events may carried
     (λ row leg owned commits.
-    by-left layout now (behind_end now job (Coded code rule writes lengths) (after_abnormal (record row { place = Some (Within (step_now row) writes) }) (Within (step_now row) writes) (after_commit row owned (step_now row) writes lengths.items now.tables))) job row leg kept.events commits.running.holder
+    by-left layout now (behind_end now job (Coded code rule writes lengths) (after_abnormal (record row { place = Some (Within (step_now row) writes) }) (Within (step_now row) writes) (after_commit row owned (step_now row) writes lengths.items now.tables))) job row leg kept.events commits.at.running.holder
     (λ name left. coded_so layout now job row leg owned writes lengths.items name kept.events commits left))
 
 -- with an ending that commits nothing

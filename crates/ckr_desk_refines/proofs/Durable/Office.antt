@@ -1,6 +1,6 @@
 -- The office behind an event of a step that is running: what holds of the tables behind each such step holds behind the event.
 use Rattle.std.proofs.Common.{◌≡◌, ℕ, true, false, List, refl, ap, sym, ◌∙◌, subst, Option, Some}
-use Rattle.std.specs.Prelude.{◌==◌, ◌&&◌, ◌||◌, length, nat_le}
+use Rattle.std.specs.Prelude.{◌&&◌, ◌||◌}
 use Rattle.std.specs.Option.{option_map_or}
 use Rattle.arrayvec.specs.ArrayVec.{ArrayVec}
 use Rattle.ckr_points_library.specs.Commit.{output_names}
@@ -13,54 +13,28 @@ use Rattle.ckr_jcl.specs.declared.deck.Job.{Job}
 use Rattle.ckr_library.specs.NameMaps.{Name}
 use Rattle.ckr_meaning.specs.EffectiveJob.{OwnedStep}
 use Rattle.ckr_meaning.specs.declared.place.Place.TheVariants.{Within}
-use Rattle.ckr_meaning.specs.StepRun.{StepStart, work_at}
 use Rattle.ckr_points.specs.Tables.{after_checkpointed, after_commit, after_held, after_rewritten, after_step_ended}
-use Rattle.ckr_points.specs.Follows.{are_lengths, ended_follows, is_checkpoint, is_in_state, is_rewrite, is_running, is_update, is_within, lengths_follow, of_step}
+use Rattle.ckr_points.specs.Follows.{are_lengths, ended_follows, is_in_state, is_rewrite, is_running, is_update, is_within, lengths_follow, of_step}
 use Rattle.ckr_points.specs.declared.run.RunState.TheVariants.{Released as ReleasedRun, On}
-use Rattle.ckr_points.specs.Payload.{carries, carries_taken, commits, is_returned, writes_in}
+use Rattle.ckr_points.specs.Payload.{carries, commits, writes_in}
 use Rattle.ckr_points.specs.Office.{Leg, Office, library_after, office_after}
-use Rattle.ckr_points.specs.Restart.{after_abnormal, after_ended, by_step, place_of, step_in}
+use Rattle.ckr_points.specs.Restart.{after_abnormal, after_ended, by_step, place_of}
 use Rattle.ckr_points.specs.Rows.{RunRow, TablesModel, run_of}
 use Rattle.ckr_points.specs.Soundness.{may_come}
 use Rattle.ckr_points_invariant.specs.Invariant.{IsAgreed, step_now}
-use Rattle.ckr_points_invariant.specs.RunningSteps.{IsRunning, its_start}
+use Rattle.ckr_points_invariant.specs.RunningSteps.{IsRunning}
+use Rattle.ckr_points_invariant.proofs.EventRows.{IsCommitting, by-step_ended}
+use Rattle.ckr_points_invariant.proofs.EventRows as rows
 use Rattle.ckr_points_invariant.proofs.WaitingRuns.{follows-of, tested-run}
 use Rattle.ckr_points_invariant.proofs.Steps.Commits.{carried-of}
 use Rattle.ckr_points_invariant.proofs.Steps.Events.{led-by, on-holds, running-holds, running-within, step-by}
 use Rattle.ckr_points_invariant.proofs.Start.Event.{running-so}
 use Rattle.ckr_volumes.specs.declared.layout.Layout.{Layout}
 
--- what is given of a step whose lengths are committed
-pub record CommitsNow (office : Office) (job : ℕ) (row : RunRow) (leg : Leg) (owned : OwnedStep) (writes : ℕ) (lengths : List ℕ) : Type 0 where
-  pub running : IsRunning office job row leg owned (step_now row) (writes_in (place_of row))
-  pub carried : commits office.tables.sets row writes lengths (its_start leg owned (step_now row)) ≡ true
-  pub are : are_lengths office.tables.sets (output_names row.job.root owned) lengths ≡ true
-
 pub by-step-ended : (Q : Office → Type 0) (layout : Layout) (office : Office) (job step rc writes : ℕ) (lengths : ArrayVec ℕ) (deck : Option Job) → IsAgreed layout office → may_come layout office (StepEnded job step rc writes lengths, deck) ≡ true → carries layout office (StepEnded job step rc writes lengths) deck ≡ true
-    → ((row : RunRow) (leg : Leg) (owned : OwnedStep) → CommitsNow office job row leg owned writes lengths.items → Q (record office { tables = after_step_ended row owned (step_now row) rc writes lengths.items office.tables })) → Q (office_after (StepEnded job step rc writes lengths, deck) office)
+    → ((row : RunRow) (leg : Leg) (owned : OwnedStep) → IsCommitting office job row leg owned writes lengths.items → Q (record office { tables = after_step_ended row owned (step_now row) rc writes lengths.items office.tables })) → Q (office_after (StepEnded job step rc writes lengths, deck) office)
 by-step-ended Q layout office job step rc writes lengths deck kept may carried each =
-    tested-run office.tables job (λ row. is_running row && step_in (place_of row) == step && lengths_follow office.tables row lengths.items) (follows-of layout office (StepEnded job step rc writes lengths) deck may)
-    (λ row e passes.
-    let runs : is_running row ≡ true = and-first (is_running row) (step_in (place_of row) == step) (and-first (is_running row && step_in (place_of row) == step) (lengths_follow office.tables row lengths.items) passes) in
-    let on : is_in_state On row ≡ true = and-first (is_in_state On row) (is_within (place_of row)) runs in
-    led-by layout office job row kept e (on-holds row.state on)
-    (λ leg holder.
-    step-by office.tables row lengths.items (and-second (is_running row && step_in (place_of row) == step) (lengths_follow office.tables row lengths.items) passes)
-    (λ owned found are.
-    let start : StepStart = its_start leg owned (step_now row) in
-    let tests : (commits office.tables.sets row writes lengths.items start && writes == length (work_at start).writes && is_returned rc (work_at start).finish) ≡ true =
-    carried-of layout office job row leg owned (step_now row) (λ row start. commits office.tables.sets row writes lengths.items start && writes == length (work_at start).writes && is_returned rc (work_at start).finish) kept holder refl found carried in
-    let same : office_after (StepEnded job step rc writes lengths, deck) office ≡ record office { tables = after_step_ended row owned (step_now row) rc writes lengths.items office.tables } =
-    ap (λ (o : Option RunRow). (let its : Office = record office { tables = option_map_or (λ row. by_step (λ owned step. after_step_ended row owned step rc writes lengths.items office.tables) row office.tables) o office.tables } in its)) e
-    ∙ ap (λ (o : Option OwnedStep). (let its : Office = record office { tables = option_map_or (λ owned. after_step_ended row owned (step_now row) rc writes lengths.items office.tables) o office.tables } in its)) found in
-    subst Q (sym same)
-    (each row leg owned (record {
-      running = running-so layout office job row leg owned holder (and-second (is_in_state On row) (is_within (place_of row)) runs) found;
-      carried =
-          and-first (commits office.tables.sets row writes lengths.items start) (writes == length (work_at start).writes)
-          (and-first (commits office.tables.sets row writes lengths.items start && writes == length (work_at start).writes) (is_returned rc (work_at start).finish) tests);
-      are = are;
-    })))))
+    by-step_ended Q layout office kept job step rc writes lengths deck (record { may = may; carried = carried }) (λ row leg owned its. each row leg owned its.committing)
 
 -- the office behind the end of a run, by its tables
 abbrev pub behind_end : Office → ℕ → Ending → TablesModel → Office
@@ -71,7 +45,7 @@ ended-office office job ending deck row e =
     ap (λ (o : Option RunRow). behind_end office job ending (option_map_or (λ row. after_ended row ending office.tables) o office.tables)) e
 
 pub by-coded : (Q : Office → Type 0) (layout : Layout) (office : Office) (job rule writes : ℕ) (code : Code) (lengths : ArrayVec ℕ) (deck : Option Job) → IsAgreed layout office → may_come layout office (Ended job (Coded code rule writes lengths), deck) ≡ true → carries layout office (Ended job (Coded code rule writes lengths)) deck ≡ true
-    → ((row : RunRow) (leg : Leg) (owned : OwnedStep) → CommitsNow office job row leg owned writes lengths.items
+    → ((row : RunRow) (leg : Leg) (owned : OwnedStep) → IsCommitting office job row leg owned writes lengths.items
     → Q (behind_end office job (Coded code rule writes lengths) (after_abnormal (record row { place = Some (Within (step_now row) writes) }) (Within (step_now row) writes) (after_commit row owned (step_now row) writes lengths.items office.tables)))) → Q (office_after (Ended job (Coded code rule writes lengths), deck) office)
 by-coded Q layout office job rule writes code lengths deck kept may carried each =
     tested-run office.tables job (λ row. ended_follows office.tables row (Coded code rule writes lengths)) (follows-of layout office (Ended job (Coded code rule writes lengths)) deck may)
@@ -87,9 +61,12 @@ by-coded Q layout office job rule writes code lengths deck kept may carried each
     ∙ ap (λ (o : Option OwnedStep). behind_end office job ending (option_map_or (λ owned. after_abnormal (record row { place = Some (Within (step_now row) writes) }) (Within (step_now row) writes) (after_commit row owned (step_now row) writes lengths.items office.tables)) o office.tables)) found in
     subst Q (sym same)
     (each row leg owned (record {
-      running = running-so layout office job row leg owned holder (running-within office.tables row leg (kept.places job row leg holder) runs) found;
-      carried = carried-of layout office job row leg owned (step_now row) (λ row. commits office.tables.sets row writes lengths.items) kept holder refl found carried;
-      are = are;
+      at = record {
+        running = running-so layout office job row leg owned holder (running-within office.tables row leg (kept.places job row leg holder) runs) found;
+        within = running-within office.tables row leg (kept.places job row leg holder) runs;
+        are = are;
+      };
+      commit = carried-of layout office job row leg owned (step_now row) (λ row. commits office.tables.sets row writes lengths.items) kept holder refl found carried;
     })))))
 
 -- the office behind the hold of a run, by its row and its step
@@ -97,24 +74,9 @@ abbrev pub behind_hold : Office → Code → ℕ → List ℕ → RunRow → Own
 behind_hold office code writes lengths row owned = record office { tables = after_held row owned (step_now row) code writes lengths office.tables }
 
 pub by-held : (Q : Office → Type 0) (layout : Layout) (office : Office) (job writes : ℕ) (code : Code) (lengths : ArrayVec ℕ) (deck : Option Job) → IsAgreed layout office → may_come layout office (Held job code writes lengths, deck) ≡ true → carries layout office (Held job code writes lengths) deck ≡ true
-    → ((row : RunRow) (leg : Leg) (owned : OwnedStep) → CommitsNow office job row leg owned writes lengths.items → Q (behind_hold office code writes lengths.items row owned)) → Q (office_after (Held job code writes lengths, deck) office)
+    → ((row : RunRow) (leg : Leg) (owned : OwnedStep) → IsCommitting office job row leg owned writes lengths.items → Q (behind_hold office code writes lengths.items row owned)) → Q (office_after (Held job code writes lengths, deck) office)
 by-held Q layout office job writes code lengths deck kept may carried each =
-    tested-run office.tables job (λ row. (is_running row || is_in_state ReleasedRun row) && lengths_follow office.tables row lengths.items) (follows-of layout office (Held job code writes lengths) deck may)
-    (λ row e passes.
-    let runs : (is_running row || is_in_state ReleasedRun row) ≡ true = and-first (is_running row || is_in_state ReleasedRun row) (lengths_follow office.tables row lengths.items) passes in
-    led-by layout office job row kept e (running-holds row runs)
-    (λ leg holder.
-    step-by office.tables row lengths.items (and-second (is_running row || is_in_state ReleasedRun row) (lengths_follow office.tables row lengths.items) passes)
-    (λ owned found are.
-    let same : office_after (Held job code writes lengths, deck) office ≡ behind_hold office code writes lengths.items row owned =
-    ap (λ (o : Option RunRow). (let its : Office = record office { tables = option_map_or (λ row. by_step (λ owned step. after_held row owned step code writes lengths.items office.tables) row office.tables) o office.tables } in its)) e
-    ∙ ap (λ (o : Option OwnedStep). (let its : Office = record office { tables = option_map_or (λ owned. after_held row owned (step_now row) code writes lengths.items office.tables) o office.tables } in its)) found in
-    subst Q (sym same)
-    (each row leg owned (record {
-      running = running-so layout office job row leg owned holder (running-within office.tables row leg (kept.places job row leg holder) runs) found;
-      carried = carried-of layout office job row leg owned (step_now row) (λ row. commits office.tables.sets row writes lengths.items) kept holder refl found carried;
-      are = are;
-    })))))
+    rows.by-held Q layout office kept job writes code lengths deck (record { may = may; carried = carried }) each
 
 -- what is given of a step that has rewritten a record
 pub record RewritesNow (office : Office) (job : ℕ) (row : RunRow) (leg : Leg) (owned : OwnedStep) (lengths : List ℕ) : Type 0 where
@@ -151,24 +113,6 @@ behind_checkpoint office job id taken writes lengths place bytes row owned =
 
 pub by-checkpointed : (Q : Office → Type 0) (layout : Layout) (office : Office) (job taken writes place bytes : ℕ) (id : Name) (lengths : ArrayVec ℕ) (deck : Option Job) → IsAgreed layout office → may_come layout office (Checkpointed job id taken writes lengths place bytes, deck) ≡ true
     → carries layout office (Checkpointed job id taken writes lengths place bytes) deck ≡ true
-    → ((row : RunRow) (leg : Leg) (owned : OwnedStep) → CommitsNow office job row leg owned writes lengths.items → Q (behind_checkpoint office job id taken writes lengths.items place bytes row owned)) → Q (office_after (Checkpointed job id taken writes lengths place bytes, deck) office)
+    → ((row : RunRow) (leg : Leg) (owned : OwnedStep) → IsCommitting office job row leg owned writes lengths.items → Q (behind_checkpoint office job id taken writes lengths.items place bytes row owned)) → Q (office_after (Checkpointed job id taken writes lengths place bytes, deck) office)
 by-checkpointed Q layout office job taken writes place bytes id lengths deck kept may carried each =
-    tested-run office.tables job (λ row. is_running row && lengths_follow office.tables row lengths.items && of_step row (is_checkpoint office.tables id lengths.items place bytes row)) (follows-of layout office (Checkpointed job id taken writes lengths place bytes) deck may)
-    (λ row e passes.
-    let early : (is_running row && lengths_follow office.tables row lengths.items) ≡ true = and-first (is_running row && lengths_follow office.tables row lengths.items) (of_step row (is_checkpoint office.tables id lengths.items place bytes row)) passes in
-    let runs : is_running row ≡ true = and-first (is_running row) (lengths_follow office.tables row lengths.items) early in
-    led-by layout office job row kept e (on-holds row.state (and-first (is_in_state On row) (is_within (place_of row)) runs))
-    (λ leg holder.
-    step-by office.tables row lengths.items (and-second (is_running row) (lengths_follow office.tables row lengths.items) early)
-    (λ owned found are.
-    let same : office_after (Checkpointed job id taken writes lengths place bytes, deck) office ≡ behind_checkpoint office job id taken writes lengths.items place bytes row owned =
-    ap (λ (o : Option RunRow). (let its : Office = record office { tables = option_map_or (λ row. by_step (λ owned step. after_checkpointed row owned step (record { id = id; run = job; place = place; bytes = bytes }) taken writes lengths.items office.tables) row office.tables) o office.tables } in its)) e
-    ∙ ap (λ (o : Option OwnedStep). (let its : Office = record office { tables = option_map_or (λ owned. after_checkpointed row owned (step_now row) (record { id = id; run = job; place = place; bytes = bytes }) taken writes lengths.items office.tables) o office.tables } in its)) found in
-    subst Q (sym same)
-    (each row leg owned (record {
-      running = running-so layout office job row leg owned holder (and-second (is_in_state On row) (is_within (place_of row)) runs) found;
-      carried =
-          and-first (commits office.tables.sets row writes lengths.items (its_start leg owned (step_now row))) (carries_taken taken writes (its_start leg owned (step_now row)))
-          (carried-of layout office job row leg owned (step_now row) (λ row start. commits office.tables.sets row writes lengths.items start && carries_taken taken writes start) kept holder refl found (and-second (nat_le 1 bytes) _ carried));
-      are = are;
-    })))))
+    rows.by-checkpointed Q layout office kept job taken writes place bytes id lengths deck (record { may = may; carried = carried }) (λ row leg owned its. each row leg owned its.committing)

@@ -26,15 +26,16 @@ use Rattle.ckr_volumes.specs.declared.layout.Layout.{Layout}
 use Rattle.ckr_desk_memory.specs.Invariant.{is_in_step}
 use Rattle.ckr_desk_memory.specs.View.{PointView}
 use Rattle.ckr_desk_refines.specs.Standing.{OwnStands, PointsStand}
-use Rattle.ckr_desk_refines.proofs.Durable.Office.{CommitsNow, behind_hold, by-held}
+use Rattle.ckr_desk_refines.proofs.Durable.Office.{behind_hold, by-held}
 use Rattle.ckr_desk_refines.proofs.Entries.KeptEntries.{kept_at-committed}
 use Rattle.ckr_desk_refines.proofs.Events.OtherRows.{released-enters, released-row}
 use Rattle.ckr_desk_refines.proofs.Standing.Points.{by-effect, check-by, entry_in_effect}
+use Rattle.ckr_points_invariant.proofs.EventRows.{IsCommitting}
 
 module _ (layout : Layout) (now : Office) (agreed : IsAgreed layout now) (ready : AreReady now) (points : List PointView) (stand : PointsStand now points) where
   -- ---- held
 
-  module _ (job writes : ℕ) (code : Code) (lengths : List ℕ) (row : RunRow) (leg : Leg) (owned : OwnedStep) (commits : CommitsNow now job row leg owned writes lengths) where
+  module _ (job writes : ℕ) (code : Code) (lengths : List ℕ) (row : RunRow) (leg : Leg) (owned : OwnedStep) (commits : IsCommitting now job row leg owned writes lengths) where
     abbrev sets : Named TableSet
     sets = committed (output_names row.job.root owned) lengths now.tables.sets
 
@@ -42,10 +43,10 @@ module _ (layout : Layout) (now : Office) (agreed : IsAgreed layout now) (ready 
     next = record row { state = HeldRun; initiator = None; code = Some code; place = Some (Within (step_now row) writes) }
 
     its_row : run_of now.tables job ≡ Some row
-    its_row = commits.running.holder.row_at
+    its_row = commits.at.running.holder.row_at
 
     in-step : is_in_step row ≡ true
-    in-step = and_from (is_holder row.state) (is_within (place_of row)) commits.running.holder.holds (ap is_within commits.running.stands)
+    in-step = and_from (is_holder row.state) (is_within (place_of row)) commits.at.running.holder.holds (ap is_within commits.at.running.stands)
 
     -- its entry is kept still
     entry-kept : (effect : EffectPoint) → row.in_effect ≡ Some effect → (entry : KeptEntry) → kept_at sets effect.set effect.kept.id ≡ Some entry → kept_at now.tables.sets effect.set effect.kept.id ≡ Some entry
@@ -54,7 +55,7 @@ module _ (layout : Layout) (now : Office) (agreed : IsAgreed layout now) (ready 
         (λ leg holder check.
         let there : kept_at now.tables.sets effect.set effect.kept.id ≡ Some check.entry = kept-entry now.tables.sets effect.set effect.kept.id check.entry check.keeps in
         let still : kept_at sets effect.set effect.kept.id ≡ Some check.entry =
-        kept_at-committed now.tables.sets effect.set effect.kept.id check.keeps.table check.entry check.keeps.at check.keeps.ends (output_names row.job.root owned) lengths now.tables.sets commits.are there in
+        kept_at-committed now.tables.sets effect.set effect.kept.id check.keeps.table check.entry check.keeps.at check.keeps.ends (output_names row.job.root owned) lengths now.tables.sets commits.at.are there in
         there ∙ ap Some (some-one check.entry entry (kept_at sets effect.set effect.kept.id) still found))
 
     hold-stands : OwnStands (behind_hold now code writes lengths row owned) points job

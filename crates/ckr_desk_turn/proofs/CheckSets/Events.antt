@@ -1,13 +1,11 @@
 -- Data sets for checkpoints have records of 256 bytes behind one more event, where they have them before it.
-use Rattle.std.proofs.Common.{◌≡◌, ℕ, zero, suc, Bool, true, false, List, Option, Some, None}
+use Rattle.std.proofs.Common.{◌≡◌, ℕ, suc, Bool, true, false, List, Option, Some, None, refl}
 use Rattle.std.specs.Option.{option_map_or}
-use Rattle.arrayvec.specs.ArrayVec.{ArrayVec}
 use Rattle.ckr_events.specs.declared.event.Event.{Event}
-use Rattle.ckr_events.specs.declared.event.Event.TheVariants.{Checkpointed, Ended, Held, Restarted, Rewritten, Selected, Started, StepEnded, Submitted}
+use Rattle.ckr_events.specs.declared.event.Event.TheVariants.{Restarted, Selected, Submitted}
 use Rattle.ckr_events.specs.declared.event.Ending.{Ending}
 use Rattle.ckr_events.specs.declared.event.Ending.TheVariants.{Allocation, Coded, Completed}
 use Rattle.ckr_events.specs.declared.event.Made.{Made}
-use Rattle.ckr_events.specs.Jobs.{job_of}
 use Rattle.ckr_jcl.specs.declared.deck.Job.{Job}
 use Rattle.ckr_library.specs.declared.sets.Kept.{Kept}
 use Rattle.ckr_library.proofs.Named.{each-with_changed}
@@ -22,17 +20,18 @@ use Rattle.ckr_points.specs.Office.{Leg, Office, office_after}
 use Rattle.ckr_points.specs.Marks.{point_at, removed_all, with_point, has_passed, without_passed}
 use Rattle.ckr_points.specs.Restart.{Back, after_abnormal, after_continued, after_continued_at, after_ended, after_entry_continued, after_passed_ended, after_put_back, after_restarted, back_to_entry, back_to_start, by_run, by_step, continued_row, deferred_entry, deferred_start, effect_restarted, kept_at, place_of, point_restarted, row_on, step_in, syschk_name}
 use Rattle.ckr_points.specs.Rows.{EffectPoint, KeptEntry, RunRow, StartPoint, TablesModel, run_of, standing_of, step_of_run, table_ways}
-use Rattle.ckr_points.specs.Tables.{after_checkpointed, after_commit, after_dispositions, after_held, after_rewritten, after_selected, after_step_ended, earlier_made, is_checkpoints, is_updates, name_with_role, own_made, row_rewritten, run_disposals, table_rewritten}
+use Rattle.ckr_points.specs.Tables.{after_checkpointed, after_commit, after_dispositions, after_rewritten, after_step_ended, earlier_made, is_checkpoints, is_updates, name_with_role, own_made, row_rewritten, run_disposals, table_rewritten, after_started}
 use Rattle.ckr_desk_turn.specs.DeckLimits.{HasCheckParts}
 use Rattle.ckr_points_invariant.specs.Invariant.{IsHolder, IsKept}
 use Rattle.ckr_points_invariant.proofs.PutBack.Sets.{removed_all-holds}
-use Rattle.ckr_points_invariant.proofs.Start.Event.{by-start}
 use Rattle.ckr_volumes.specs.declared.layout.Layout.{Layout}
 use Rattle.ckr_desk_turn.specs.CheckSets.{HasCheckRecords, HaveCheckRecords}
 use Rattle.ckr_desk_turn.specs.DeckEvents.{IsDeckEvent}
 use Rattle.ckr_desk_turn.proofs.CheckSets.Changes.{committed-have, disposed_all-have, made_all-have, opened_all-have, passed_ended-have, placed-right, put_back-have}
 use Rattle.ckr_desk_turn.proofs.AdmittedSteps.{admitted-parts}
 use Rattle.ckr_desk_turn.proofs.Runs.Rows.{HasRow, HasRows, has-row}
+use Rattle.ckr_points_invariant.proofs.EventCases.{RunCases, by-run-cases}
+use Rattle.ckr_points_invariant.proofs.Start.Event.{StartsNow}
 
 -- each data set for checkpoints of the tables
 abbrev Have : TablesModel → Type 0
@@ -83,14 +82,12 @@ module _ (layout : Layout) (now : Office) (kept : IsKept layout now) (has : HasR
       let was : HasRow row = has-row now has job row holder.row_at in
       admitted-parts step owned (was.admitted.steps step owned found)
 
-  started-has : (job step : ℕ) (items : ArrayVec Made) (deck : Option Job) → IsNext layout now (Started job step items, deck) → Have (office_after (Started job step items, deck) now).tables
-  started-has job step items deck next =
-      by-start (λ (office : Office). Have office.tables) layout now job step items deck kept.events next.may next.carried
-      (λ row leg owned starts.
+  started-has : (job step : ℕ) (items : List Made) (row : RunRow) (leg : Leg) (owned : OwnedStep) → StartsNow layout now job row leg owned step items → Have (after_started row owned step items now.tables)
+  started-has job step items row leg owned starts =
       let placed : List DdAllotment = placed_in table_ways (standing_of row now.tables) row.job.root owned in
-      made_all-have (stamp_of owned step) items.items placed (opened_all table_ways (stamp_of owned step) placed now.tables.sets)
+      made_all-have (stamp_of owned step) items placed (opened_all table_ways (stamp_of owned step) placed now.tables.sets)
       (placed-right table_ways (standing_of row now.tables) row.job.root owned 1 owned.step.dds (own-parts job row leg owned step starts.holder starts.found).records)
-      (opened_all-have (stamp_of owned step) placed now.tables.sets each))
+      (opened_all-have (stamp_of owned step) placed now.tables.sets each)
 
   rewritten-has : (row : RunRow) (owned : OwnedStep) (step writes : ℕ) (lengths : List ℕ) → Have (after_rewritten row owned step writes lengths now.tables)
   rewritten-has row owned step writes lengths =
@@ -142,24 +139,28 @@ module _ (layout : Layout) (now : Office) (kept : IsKept layout now) (has : HasR
           by now.tables (λ (entry : KeptEntry). after_entry_continued next owned step (syschk_name next.deck) entry now.tables) (kept_at now.tables.sets (syschk_name next.deck) id) each
           (λ entry. back-has next owned (deferred_entry next step entry.point))
 
+  have-cases : RunCases layout now kept.events (λ office. Have office.tables)
+  have-cases = record {
+    gone = λ job row state e queued over gone. each;
+    selected = λ row initiator row_at queued plain free. each;
+    started = λ job step items row leg owned starts apart. started-has job step items row leg owned starts;
+    rewritten = λ job taken writes place lengths image row leg owned its apart. rewritten-has row owned (step_in (place_of row)) writes lengths;
+    checkpointed = λ job taken writes place bytes id lengths row leg owned its apart. taken-has row owned (step_in (place_of row)) (record { id = id; run = job; place = place; bytes = bytes }) taken writes lengths;
+    withdrawn = λ job row leg holder within. each;
+    step_done = λ job rc writes lengths row leg owned its apart. step_ended-has row owned (step_in (place_of row)) rc writes lengths;
+    held = λ job writes code lengths row leg owned its apart. committed-have (output_names row.job.root owned) lengths now.tables.sets each;
+    released = λ job row leg its. each;
+    through = λ job row leg its apart. passed-has now.tables row each;
+    coded = λ job rule writes code lengths row leg owned its apart. ended-has now.tables row (Coded code rule writes lengths) each;
+    refused = λ job dd cause first second row leg owned its apart. abnormal-has now.tables row (place_of row) each;
+  }
+
   pub have-next : (event : Event) (deck : Option Job) → IsDeckEvent event deck → IsNext layout now (event, deck) → Have (office_after (event, deck) now).tables
   have-next (Submitted job cards) None is next = absurd is
   have-next (Submitted job cards) (Some deck) is next = each
-  have-next (Selected job initiator zero step id) deck is next = by now.tables (λ (row : RunRow). after_selected row initiator now.tables) (run_of now.tables job) each (λ row. each)
   have-next (Selected job initiator (suc before) step id) deck is next =
       by now.tables (λ (row : RunRow). by_run (suc before) now.tables (λ earlier. after_continued row earlier step initiator id now.tables)) (run_of now.tables job) each
       (λ row. by now.tables (λ (earlier : RunRow). after_continued row earlier step initiator id now.tables) (run_of now.tables (suc before)) each (λ earlier. continued-has row earlier step initiator id))
-  have-next (Started job step items) deck is next = started-has job step items deck next
-  have-next (Rewritten job taken writes lengths place image) deck is next =
-      by-step now.tables job (λ row owned step. after_rewritten row owned step writes lengths.items now.tables) each (λ row owned step. rewritten-has row owned step writes lengths.items)
-  have-next (Checkpointed job id taken writes lengths place bytes) deck is next =
-      let entry : Kept = record { id = id; run = job; place = place; bytes = bytes } in
-      by-step now.tables job (λ row owned step. after_checkpointed row owned step entry taken writes lengths.items now.tables) each (λ row owned step. taken-has row owned step entry taken writes lengths.items)
-  have-next (StepEnded job step rc writes lengths) deck is next =
-      by-step now.tables job (λ row owned step. after_step_ended row owned step rc writes lengths.items now.tables) each (λ row owned step. step_ended-has row owned step rc writes lengths.items)
   have-next (Restarted job initiator code checkpoint) deck is next =
       by-step now.tables job (λ row owned step. after_restarted row owned step initiator checkpoint now.tables) each (λ row owned step. restarted-has row owned step initiator checkpoint)
-  have-next (Held job code writes lengths) deck is next =
-      by-step now.tables job (λ row owned step. after_held row owned step code writes lengths.items now.tables) each (λ row owned step. committed-have (output_names row.job.root owned) lengths.items now.tables.sets each)
-  have-next (Ended job ending) deck is next = by now.tables (λ (row : RunRow). after_ended row ending now.tables) (run_of now.tables job) each (λ row. ended-has now.tables row ending each)
-  have-next event deck is next = by now.tables _ (run_of now.tables (job_of event)) each (λ row. each)
+  have-next event deck is next = by-run-cases (λ (office : Office). Have office.tables) layout now kept.events have-cases event deck tt refl next

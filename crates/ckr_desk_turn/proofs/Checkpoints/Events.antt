@@ -42,7 +42,7 @@ use Rattle.ckr_points_invariant.specs.RunningSteps.{IsRunning, its_start}
 use Rattle.ckr_points_invariant.proofs.Holders.Places.{outputs-among}
 use Rattle.ckr_points_invariant.proofs.Holders.Rows.{run-same}
 use Rattle.ckr_points_invariant.proofs.Points.Lists.{pointed-next}
-use Rattle.ckr_points_invariant.proofs.RowChanges.{checkpointed}
+use Rattle.ckr_points_invariant.proofs.SoundEvents.{kept-next}
 use Rattle.ckr_points_invariant.proofs.Library.Entries.{among-filter_map, is_name}
 use Rattle.ckr_points_invariant.proofs.Steps.Commits.{alike_within, formed_step, in_reach, place_so, under_way}
 use Rattle.ckr_desk_turn.specs.Checkpoints.{HasRow, MayCheckpoint, check_set, checkpoint_event, checkpoint_fits, entry_bytes, entry_end, written_entry, entry_place, entry_with, written_event, fits_in, is_check_set, is_in_range, lengths_with, next_entry, next_id, office_behind, entry_ending}
@@ -323,10 +323,7 @@ module _ (layout : Layout) (office : Office) (step : DeskStep) (may : MayCheckpo
   may-come = checkpoint-comes layout office step.run may.going.row may.going.number may.going.committed may.going.start within_so may.kept may.spaced step.progress may.going.behind known_so its_number
 
   pub kept-behind : IsKept layout (office_behind layout office step may)
-  kept-behind =
-      checkpointed layout office may.going.row.number step.progress.taken step.progress.writes (entry_place office.tables.sets may.going.start) (entry_bytes office.tables.sets may.going.row may.going.start step.progress)
-      (next_id may.going.row may.going.start) (record { items = lengths_with office.tables.sets may.going.start step.progress.writes (entry_end office.tables.sets may.going.row may.going.start step.progress) }) None
-      may.kept may-come.may may-come.carried
+  kept-behind = kept-next layout office (written_event layout office step may) None refl may.kept may-come
 
   pub pointed-behind : ArePointed office → ArePointed (office_behind layout office step may)
   pointed-behind pointed = pointed-next layout office (written_event layout office step may) None refl may.kept.events pointed may-come

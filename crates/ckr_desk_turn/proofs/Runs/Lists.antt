@@ -1,8 +1,7 @@
 -- Sound events of decks leave what a desk of its runs has.
-use Rattle.std.proofs.Common.{zero, suc, List, [], ◌∷◌, refl, Option}
+use Rattle.std.proofs.Common.{suc, List, [], ◌∷◌, refl, Option}
 use Rattle.ckr_events.specs.declared.event.Event.{Event}
-use Rattle.ckr_events.specs.declared.event.Event.TheVariants.{Cancelled, Checkpointed, Denied, Ended, Held, Purged, Released, Restarted, Rewritten, Selected, Started, StepEnded, Submitted}
-use Rattle.ckr_events.specs.declared.event.Ending.TheVariants.{Allocation, Coded, Completed}
+use Rattle.ckr_events.specs.declared.event.Event.TheVariants.{Restarted, Selected, Submitted}
 use Rattle.ckr_jcl.specs.declared.deck.Job.{Job}
 use Rattle.ckr_volumes.specs.declared.layout.Layout.{Layout}
 use Rattle.ckr_points.specs.Events.{AreSound, AreSoundFrom, IsNext}
@@ -17,30 +16,36 @@ use Rattle.ckr_desk_turn.specs.DeckEvents.{AreDeckEvents, IsDeckEvent}
 use Rattle.ckr_desk_turn.proofs.CheckSets.Events.{have-next}
 use Rattle.ckr_desk_turn.proofs.Opening.{opened-is}
 use Rattle.ckr_desk_turn.proofs.Runs.Continuations.{continued-runs}
-use Rattle.ckr_desk_turn.proofs.Runs.Ends.{coded-runs, completed-runs, refused-runs}
-use Rattle.ckr_desk_turn.proofs.Runs.Events.{cancelled-runs, checkpointed-runs, denied-runs, held-runs, purged-runs, released-runs, rewritten-runs, selected-runs, started-runs, step_ended-runs, submitted-runs}
+use Rattle.ckr_desk_turn.proofs.Runs.Ends.{coded-runs, refused-runs, through-runs}
+use Rattle.ckr_desk_turn.proofs.Runs.Events.{checkpointed-runs, held-runs, released-runs, rewritten-runs, started-runs, submitted-runs, chosen-runs, gone-runs, step_done-runs, withdrawn-runs}
 use Rattle.ckr_desk_turn.proofs.Runs.Restarts.{restarted-runs}
 use Rattle.ckr_desk_turn.proofs.Runs.Rows.{HasRows, runs-of}
 use Rattle.ckr_points_invariant.specs.KeptEvents.{AreKept}
+use Rattle.ckr_points_invariant.proofs.EventCases.{RunCases, by-run-cases}
 
 module _ (layout : Layout) (now : Office) (are : AreKept layout now) (has : HasRows now) where
+  runs-cases : RunCases layout now are.kept.events HasRows
+  runs-cases = record {
+    gone = λ job row state e queued over gone. gone-runs layout now are.kept.events has job row state e queued over;
+    selected = λ row initiator row_at queued plain free. chosen-runs layout now are.kept.events has row initiator row_at queued plain free;
+    started = λ job step items row leg owned starts apart. started-runs layout now are.kept.events has job step items row leg owned starts;
+    rewritten = λ job taken writes place lengths image row leg owned its apart. rewritten-runs layout now are.kept.events has job writes lengths row owned its.at.running.holder.row_at its.at.running.found;
+    checkpointed = λ job taken writes place bytes id lengths row leg owned its apart.
+        checkpointed-runs layout now are.kept.events has job taken writes (record { id = id; run = job; place = place; bytes = bytes }) lengths row owned its.committing.at.running.holder.row_at its.committing.at.running.found;
+    withdrawn = λ job row leg holder within. withdrawn-runs layout now are.kept.events has job row holder.row_at;
+    step_done = λ job rc writes lengths row leg owned its apart. step_done-runs layout now are.kept.events has job rc writes lengths row owned its.committing.at.running.holder.row_at its.on;
+    held = λ job writes code lengths row leg owned its apart. held-runs layout now are.kept.events has job writes code lengths row owned its.at.running.holder.row_at its.at.running.found;
+    released = λ job row leg its. released-runs layout now are.kept.events has job row its.holder.row_at its.is_held;
+    through = λ job row leg its apart. through-runs layout now are.kept.events has job row leg its.holder;
+    coded = λ job rule writes code lengths row leg owned its apart. coded-runs layout now are.kept.events has job rule writes code lengths row leg owned its.at.running.holder its.at.running.found;
+    refused = λ job dd cause first second row leg owned its apart. refused-runs layout now are.kept.events has job dd cause first second row leg its.holder;
+  }
+
   pub runs-next : (event : Event) (deck : Option Job) → IsDeckEvent event deck → IsNext layout now (event, deck) → HasRows (office_after (event, deck) now)
   runs-next (Submitted job cards) deck is next = submitted-runs layout now are.kept.events has job cards deck next.may is
-  runs-next (Selected job initiator zero step id) deck is next = selected-runs layout now are.kept.events has job initiator step id deck next.may
   runs-next (Selected job initiator (suc before) step id) deck is next = continued-runs layout now are has job initiator before step id deck next
-  runs-next (Denied job rule name) deck is next = denied-runs layout now are.kept.events has job rule name deck next.may
-  runs-next (Started job step items) deck is next = started-runs layout now are.kept.events has job step items deck next.may next.carried
-  runs-next (Rewritten job taken writes lengths place image) deck is next = rewritten-runs layout now are.kept.events has job taken writes place lengths image deck next.may
-  runs-next (Checkpointed job id taken writes lengths place bytes) deck is next = checkpointed-runs layout now are.kept.events has job taken writes place bytes id lengths deck next.may
-  runs-next (Cancelled job) deck is next = cancelled-runs layout now are.kept.events has job deck next.may
-  runs-next (StepEnded job step rc writes lengths) deck is next = step_ended-runs layout now are.kept.events has job step rc writes lengths deck next.may
   runs-next (Restarted job initiator code checkpoint) deck is next = restarted-runs layout now are has checkpoint job initiator code deck next
-  runs-next (Held job code writes lengths) deck is next = held-runs layout now are.kept.events has job writes code lengths deck next.may
-  runs-next (Released job) deck is next = released-runs layout now are.kept.events has job deck next.may
-  runs-next (Ended job Completed) deck is next = completed-runs layout now are.kept.events has job deck next.may
-  runs-next (Ended job (Coded code rule writes lengths)) deck is next = coded-runs layout now are.kept.events has job rule writes code lengths deck next.may
-  runs-next (Ended job (Allocation dd cause first second)) deck is next = refused-runs layout now are.kept.events has job dd cause first second deck next.may
-  runs-next (Purged job) deck is next = purged-runs layout now are.kept.events has job deck next.may
+  runs-next event deck is next = by-run-cases HasRows layout now are.kept.events runs-cases event deck tt refl next
 
 -- what the events have brought about, from some office on
 record AreLeft (layout : Layout) (office : Office) : Type 0 where

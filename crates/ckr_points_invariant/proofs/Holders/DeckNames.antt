@@ -1,5 +1,5 @@
 -- The names of a deck whatever its root and the owners of its steps, and the uses that keep two runs from meeting in one.
-use Rattle.std.proofs.Common.{◌≡◌, ℕ, suc, Bool, true, false, cond, ◌&&◌, ◌||◌, ◌+◌, List, [], ◌∷◌, ◌++◌, flat_map, map, length, refl, ap, sym, ◌∙◌, Option, Some, None}
+use Rattle.std.proofs.Common.{◌≡◌, ℕ, suc, Bool, true, false, cond, ◌&&◌, ◌||◌, List, [], ◌∷◌, ◌++◌, flat_map, map, length, refl, ap, sym, ◌∙◌, Option, Some, None}
 use Rattle.std.specs.List.{cons_option, filter_map, list_any}
 use Rattle.std.specs.Option.{is_some, option_and_then, option_map, option_to_list}
 use Rattle.std.proofs.lemmas.Bool.{false≢true, or_left, or_right}

@@ -1,15 +1,12 @@
 -- One more event keeps what the points hold.
-use Rattle.std.proofs.Common.{◌≡◌, ◌≢◌, ℕ, suc, true, false, ◌&&◌, if◌then◌else◌, List, [], ◌∷◌, map, refl, ap, sym, ◌∙◌, subst, Option, Some, None}
-use Rattle.std.specs.Prelude.{◌==◌, nat_le}
-use Rattle.std.specs.Option.{option_map, option_map_or}
-use Rattle.arrayvec.specs.ArrayVec.{ArrayVec}
+use Rattle.std.proofs.Common.{◌≡◌, ◌≢◌, ℕ, suc, true, false, if◌then◌else◌, List, ◌∷◌, map, refl, ap, sym, ◌∙◌, Some, None, length, []}
+use Rattle.std.specs.Prelude.{◌==◌}
+use Rattle.std.specs.Option.{option_map}
 use Rattle.ckr_base.specs.declared.code.Code.{Code}
-use Rattle.ckr_base.proofs.Bools.{and-first, and-second}
 use Rattle.ckr_base.proofs.Options.{some-not-none}
 use Rattle.ckr_base.proofs.Sequences.{each-append, each-implies}
 use Rattle.ckr_entry.specs.declared.point.Mark.{Mark}
 use Rattle.ckr_entry.specs.declared.point.Passed.{Passed}
-use Rattle.ckr_events.specs.declared.event.Event.TheVariants.{Cancelled, Checkpointed, Denied, Ended, Held, Purged, Released, Rewritten, Selected, Started, StepEnded, Submitted}
 use Rattle.ckr_events.specs.declared.event.Ending.{Ending}
 use Rattle.ckr_events.specs.declared.event.Made.{Made}
 use Rattle.ckr_jcl.specs.declared.deck.Job.{Job}
@@ -19,19 +16,18 @@ use Rattle.ckr_library.proofs.Named.{each-with_changed}
 use Rattle.ckr_meaning.specs.Allotments.{DdAllotment}
 use Rattle.ckr_meaning.specs.Dispositions.{Stock}
 use Rattle.ckr_meaning.specs.EffectiveJob.{OwnedStep, stamp_of}
-use Rattle.ckr_meaning.specs.LibrarySet.{LibrarySet}
+use Rattle.ckr_meaning.specs.LibrarySet.{LibrarySet, Library}
 use Rattle.ckr_meaning.specs.declared.place.Place.{Place}
 use Rattle.ckr_meaning.specs.declared.place.Place.TheVariants.{Opened, Within}
 use Rattle.ckr_points_library.specs.Commit.{output_names}
-use Rattle.ckr_points.specs.declared.run.RunState.TheVariants.{Held as HeldRun, Released as ReleasedRun, Denied as DeniedRun, Purged as PurgedRun, On, Queued}
-use Rattle.ckr_points.specs.Follows.{are_lengths, is_checkpoint, is_in_state, is_running, is_within, lengths_follow, may_hold, of_step}
+use Rattle.ckr_points.specs.declared.run.RunState.TheVariants.{Held as HeldRun, Queued}
+use Rattle.ckr_points.specs.Follows.{are_lengths, is_in_state, may_hold}
 use Rattle.ckr_points.specs.Marks.{marks_now, with_point}
-use Rattle.ckr_points.specs.Office.{Leg, Office, leg_of, office_after}
-use Rattle.ckr_points.specs.Payload.{carries, carries_taken, commits, writes_in}
-use Rattle.ckr_points.specs.Restart.{after_ended, by_step, place_of}
+use Rattle.ckr_points.specs.Office.{Leg, Office, leg_of}
+use Rattle.ckr_points.specs.Payload.{commits, writes_in}
+use Rattle.ckr_points.specs.Restart.{after_ended, place_of}
 use Rattle.ckr_points.specs.Rows.{KeptEntry, RunRow, StartPoint, TableSet, TablesModel, run_of, with_run}
-use Rattle.ckr_points.specs.Soundness.{may_come}
-use Rattle.ckr_points.specs.Tables.{after_checkpointed, after_commit, after_held, after_rewritten, after_step_ended, committed, entry_point, fresh_effect, is_checkpoints, is_updates, kept_entry, made_tables, name_with_role, point_rewritten, queued_run, row_rewritten, start_point, with_kept_entry}
+use Rattle.ckr_points.specs.Tables.{after_checkpointed, after_commit, after_held, after_rewritten, after_step_ended, committed, entry_point, fresh_effect, is_checkpoints, is_updates, kept_entry, made_tables, name_with_role, point_rewritten, queued_run, row_rewritten, start_point, with_kept_entry, after_started}
 use Rattle.ckr_volumes.specs.declared.layout.Layout.{Layout}
 use Rattle.ckr_points_invariant.specs.Invariant.{IsAgreed, IsHolder, PointsHold, set_shape, step_now}
 use Rattle.ckr_points_invariant.specs.Points.{AreEntryPoints, ArePointed, AreStepPoints, IsPointAt}
@@ -43,13 +39,12 @@ use Rattle.ckr_points_invariant.proofs.Points.Rows as rows
 use Rattle.ckr_points_invariant.proofs.Points.Sets as sets
 use Rattle.ckr_points_invariant.proofs.Select.Invariant.{chosen, led_there, next, waits}
 use Rattle.ckr_points_invariant.proofs.Stamps.Tables.{each-weaker}
-use Rattle.ckr_points_invariant.proofs.Start.Event.{by-start, running-so}
 use Rattle.ckr_points_invariant.proofs.Start.Invariant as starting
-use Rattle.ckr_points_invariant.proofs.Steps.Commits.{carried-of}
-use Rattle.ckr_points_invariant.proofs.Steps.Events.{kept-commit, led-by, on-holds, step-by}
+use Rattle.ckr_points_invariant.proofs.Steps.Events.{kept-commit}
 use Rattle.ckr_points_invariant.proofs.Steps.Walks.{at-opened}
-use Rattle.ckr_points_invariant.proofs.WaitingRuns.{by-selected, follows-of, tested-run}
 use Rattle.ckr_points_invariant.proofs.Restart.Points.{fewer, points-with}
+use Rattle.ckr_points_invariant.proofs.Start.Event.{StartsNow}
+use Rattle.ckr_points_invariant.proofs.EventRows.{submitted}
 
 -- ---- points of one run
 
@@ -68,78 +63,57 @@ module _ (layout : Layout) (now : Office) (kept : IsAgreed layout now) (pointed 
   abbrev E : List KeptEntry → Type 0
   E = AreEntryPoints now.legs
 
-  -- a row that keeps its points
-  row-same : (job : ℕ) (change : RunRow → RunRow) → ((row : RunRow) → rows.RowHolds R E tt (fewer now.legs) row → rows.RowHolds R E tt (fewer now.legs) (change row)) → PointsHold R E (option_map_or (λ row. with_run (change row) now.tables) (run_of now.tables job) now.tables)
-  row-same job change keeps =
-      rows.by-row R E tt (fewer now.legs) now.tables job (λ row. with_run (change row) now.tables) pointed
-      (λ row mine. rows.run-holds R E tt (fewer now.legs) (change row) now.tables (keeps row mine) pointed)
+  mine : (job : ℕ) (row : RunRow) → run_of now.tables job ≡ Some row → rows.RowHolds R E tt (fewer now.legs) row
+  mine job row e = rows.row-holds R E tt (fewer now.legs) now.tables job row pointed e
 
-  pub pointed-submitted : (job : ℕ) (cards : List ℕ) (deck : Option Job) → ArePointed (office_after (Submitted job cards, deck) now)
-  pointed-submitted job cards None = record { rows = pointed.rows; entries = pointed.entries }
-  pointed-submitted job cards (Some deck) = record {
-    rows = each-append (λ (row : RunRow). AreStepPoints now.legs row.number row.points) now.tables.runs (queued_run job deck ∷ []) pointed.rows (tt, tt);
+  -- a row that keeps its points
+  pub pointed-row : (job : ℕ) (row next : RunRow) → run_of now.tables job ≡ Some row → (rows.RowHolds R E tt (fewer now.legs) row → rows.RowHolds R E tt (fewer now.legs) next) → ArePointed (record now { tables = with_run next now.tables })
+  pointed-row job row next e keeps = rows.run-holds R E tt (fewer now.legs) next now.tables (keeps (mine job row e)) pointed
+
+  pub pointed-comes : (deck : Job) → ArePointed (submitted now deck)
+  pointed-comes deck = record {
+    rows = each-append (λ (row : RunRow). AreStepPoints now.legs row.number row.points) now.tables.runs (queued_run (suc (length now.tables.runs)) deck ∷ []) pointed.rows (tt, tt);
     entries = pointed.entries;
   }
 
-  pub pointed-purged : (job : ℕ) (deck : Option Job) → ArePointed (office_after (Purged job, deck) now)
-  pointed-purged job deck = row-same job (λ row. record row { state = PurgedRun }) (λ row mine. mine)
+  pub pointed-held : (job writes : ℕ) (code : Code) (lengths : List ℕ) (row : RunRow) (owned : OwnedStep) → run_of now.tables job ≡ Some row → ArePointed (record now { tables = after_held row owned (step_now row) code writes lengths now.tables })
+  pointed-held job writes code lengths row owned e =
+      rows.commit-holds R E tt (fewer now.legs) now.tables (record row { state = HeldRun; initiator = None; code = Some code }) owned (step_now row) writes lengths pointed (mine job row e)
 
-  pub pointed-denied : (job rule : ℕ) (name : Option Name) (deck : Option Job) → ArePointed (office_after (Denied job rule name, deck) now)
-  pointed-denied job rule name deck = row-same job (λ row. record row { state = DeniedRun }) (λ row mine. mine)
-
-  pub pointed-cancelled : (job : ℕ) (deck : Option Job) → ArePointed (office_after (Cancelled job, deck) now)
-  pointed-cancelled job deck = row-same job (λ row. record row { in_effect = None }) (λ row mine. mine)
-
-  pub pointed-released : (job : ℕ) (deck : Option Job) → ArePointed (office_after (Released job, deck) now)
-  pointed-released job deck = row-same job (λ row. record row { state = ReleasedRun }) (λ row mine. mine)
-
-  pub pointed-held : (job writes : ℕ) (code : Code) (lengths : ArrayVec ℕ) (deck : Option Job) → ArePointed (office_after (Held job code writes lengths, deck) now)
-  pointed-held job writes code lengths deck =
-      rows.by-step R E tt (fewer now.legs) now.tables job (λ row owned step. after_held row owned step code writes lengths.items now.tables) pointed
-      (λ row owned mine. rows.commit-holds R E tt (fewer now.legs) now.tables (record row { state = HeldRun; initiator = None; code = Some code }) owned (step_now row) writes lengths.items pointed mine)
-
-  pub pointed-rewritten : (job taken writes place : ℕ) (lengths : ArrayVec ℕ) (image : List ℕ) (deck : Option Job) → ArePointed (office_after (Rewritten job taken writes lengths place image, deck) now)
-  pointed-rewritten job taken writes place lengths image deck =
-      rows.by-step R E tt (fewer now.legs) now.tables job (λ row owned step. after_rewritten row owned step writes lengths.items now.tables) pointed
-      (λ row owned mine.
-      let done : TablesModel = after_commit (row_rewritten (step_now row) row) owned (step_now row) writes lengths.items now.tables in
+  pub pointed-rewritten : (job writes : ℕ) (lengths : List ℕ) (row : RunRow) (owned : OwnedStep) → run_of now.tables job ≡ Some row → ArePointed (record now { tables = after_rewritten row owned (step_now row) writes lengths now.tables })
+  pointed-rewritten job writes lengths row owned e =
+      let done : TablesModel = after_commit (row_rewritten (step_now row) row) owned (step_now row) writes lengths now.tables in
       let so : PointsHold R E done =
-      rows.commit-holds R E tt (fewer now.legs) now.tables (row_rewritten (step_now row) row) owned (step_now row) writes lengths.items pointed (points-rewritten now.legs row.number (step_now row) row.points mine) in
-      rows.sets-hold R E tt (fewer now.legs) done _ (sets.rewritten-holds E tt (fewer now.legs) (name_with_role row.job.root owned is_updates) owned.owner (step_now row) done.sets so.entries) so)
+      rows.commit-holds R E tt (fewer now.legs) now.tables (row_rewritten (step_now row) row) owned (step_now row) writes lengths pointed (points-rewritten now.legs row.number (step_now row) row.points (mine job row e)) in
+      rows.sets-hold R E tt (fewer now.legs) done _ (sets.rewritten-holds E tt (fewer now.legs) (name_with_role row.job.root owned is_updates) owned.owner (step_now row) done.sets so.entries) so
 
-  pub pointed-step_end : (job step rc writes : ℕ) (lengths : ArrayVec ℕ) (deck : Option Job) → ArePointed (office_after (StepEnded job step rc writes lengths, deck) now)
-  pointed-step_end job step rc writes lengths deck =
-      rows.by-step R E tt (fewer now.legs) now.tables job (λ row owned step. after_step_ended row owned step rc writes lengths.items now.tables) pointed
-      (λ row owned mine. rows.step_ended-holds R E tt (fewer now.legs) now.tables row owned (step_now row) rc writes lengths.items pointed mine)
+  pub pointed-step_done : (job rc writes : ℕ) (lengths : List ℕ) (row : RunRow) (owned : OwnedStep) → run_of now.tables job ≡ Some row → ArePointed (record now { tables = after_step_ended row owned (step_now row) rc writes lengths now.tables })
+  pointed-step_done job rc writes lengths row owned e =
+      rows.step_ended-holds R E tt (fewer now.legs) now.tables row owned (step_now row) rc writes lengths pointed (mine job row e)
 
-  pub pointed-ended : (job : ℕ) (ending : Ending) (deck : Option Job) → ArePointed (office_after (Ended job ending, deck) now)
-  pointed-ended job ending deck =
-      rows.by-row R E tt (fewer now.legs) now.tables job (λ row. after_ended row ending now.tables) pointed
-      (λ row mine. rows.ended-holds R E tt (fewer now.legs) row ending now.tables pointed mine)
+  pub pointed-ended : (job : ℕ) (ending : Ending) (row : RunRow) (library : Library) → run_of now.tables job ≡ Some row → ArePointed (record now { tables = after_ended row ending now.tables; library = library })
+  pointed-ended job ending row library e = rows.ended-holds R E tt (fewer now.legs) row ending now.tables pointed (mine job row e)
 
   -- ---- a step starts: its point is taken
 
-  pub pointed-started : (job step : ℕ) (items : ArrayVec Made) (deck : Option Job) → may_come layout now (Started job step items, deck) ≡ true → carries layout now (Started job step items) deck ≡ true → ArePointed (office_after (Started job step items, deck) now)
-  pointed-started job step items deck may carried =
-      by-start ArePointed layout now job step items deck kept may carried
-      (λ row leg owned starts.
-      let opened : Named TableSet = starting.opened layout now job row leg owned step items.items kept starts.holder starts.stands starts.found in
-      let placed : List DdAllotment = starting.placed layout now job row leg owned step items.items kept starts.holder starts.stands starts.found in
+  pub pointed-started : (job step : ℕ) (items : List Made) (row : RunRow) (leg : Leg) (owned : OwnedStep) → StartsNow layout now job row leg owned step items → ArePointed (record now { tables = after_started row owned step items now.tables })
+  pointed-started job step items row leg owned starts =
+      let opened : Named TableSet = starting.opened layout now job row leg owned step items kept starts.holder starts.stands starts.found in
+      let placed : List DdAllotment = starting.placed layout now job row leg owned step items kept starts.holder starts.stands starts.found in
       let point : StartPoint = start_point row step opened in
-      let mine = rows.row-holds R E tt (fewer now.legs) now.tables job row pointed starts.holder.row_at in
       let taken : IsPointAt now.legs row.number (Opened step) (marks_now row opened) row.passed =
       point-now layout now job row leg kept starts.holder (Opened step) opened
-      (sym (starting.now layout now job row leg owned step items.items kept starts.holder starts.stands starts.found))
+      (sym (starting.now layout now job row leg owned step items kept starts.holder starts.stands starts.found))
       (λ name among.
-      starting.opened_so layout now job row leg owned step items.items kept starts.holder starts.stands starts.found name among
+      starting.opened_so layout now job row leg owned step items kept starts.holder starts.stands starts.found name among
       ∙ ap (λ library. option_map set_shape (entry_at library name))
-      (sym (at-opened leg.job leg.start step owned (starting.found_leg layout now job row leg owned step items.items kept starts.holder starts.stands starts.found)))) in
+      (sym (at-opened leg.job leg.start step owned (starting.found_leg layout now job row leg owned step items kept starts.holder starts.stands starts.found)))) in
       rows.run-holds R E tt (fewer now.legs) (record row { place = Some (Within step 0); points = with_point point row.points })
-      (record now.tables { sets = made_tables (stamp_of owned step) items.items placed opened })
-      (points-with now.legs row.number point row.points taken mine)
+      (record now.tables { sets = made_tables (stamp_of owned step) items placed opened })
+      (points-with now.legs row.number point row.points taken (mine job row starts.holder.row_at))
       (rows.sets-hold R E tt (fewer now.legs) now.tables _
-      (sets.made_all-holds E tt (fewer now.legs) (stamp_of owned step) items.items placed opened
-      (sets.opened_all-holds E tt (fewer now.legs) (stamp_of owned step) placed now.tables.sets pointed.entries)) pointed))
+      (sets.made_all-holds E tt (fewer now.legs) (stamp_of owned step) items placed opened
+      (sets.opened_all-holds E tt (fewer now.legs) (stamp_of owned step) placed now.tables.sets pointed.entries)) pointed)
 
   -- ---- a checkpoint is taken: its entry has its point
 
@@ -192,26 +166,6 @@ module _ (layout : Layout) (now : Office) (kept : IsAgreed layout now) (pointed 
         (each-with_changed (λ (table : TableSet). AreEntryPoints now.legs table.entries) set (with_kept_entry new_entry) done.sets
         (λ table its. each-append (λ (entry : KeptEntry). IsPointAt now.legs entry.point.run (Within entry.point.step entry.point.writes) entry.point.marks entry.point.passed) table.entries (new_entry ∷ []) its (point, tt)) so.entries) so
 
-  pub pointed-checked : (job taken writes place bytes : ℕ) (id : Name) (lengths : ArrayVec ℕ) (deck : Option Job) → may_come layout now (Checkpointed job id taken writes lengths place bytes, deck) ≡ true → carries layout now (Checkpointed job id taken writes lengths place bytes) deck ≡ true → ArePointed (office_after (Checkpointed job id taken writes lengths place bytes, deck) now)
-  pointed-checked job taken writes place bytes id lengths deck may carried =
-      tested-run now.tables job (λ row. is_running row && lengths_follow now.tables row lengths.items && of_step row (is_checkpoint now.tables id lengths.items place bytes row)) (follows-of layout now (Checkpointed job id taken writes lengths place bytes) deck may)
-      (λ row e passes.
-      let early : (is_running row && lengths_follow now.tables row lengths.items) ≡ true = and-first (is_running row && lengths_follow now.tables row lengths.items) (of_step row (is_checkpoint now.tables id lengths.items place bytes row)) passes in
-      let runs : is_running row ≡ true = and-first (is_running row) (lengths_follow now.tables row lengths.items) early in
-      led-by layout now job row kept e (on-holds row.state (and-first (is_in_state On row) (is_within (place_of row)) runs))
-      (λ leg holder.
-      step-by now.tables row lengths.items (and-second (is_running row) (lengths_follow now.tables row lengths.items) early)
-      (λ owned found are.
-      let running : IsRunning now job row leg owned (step_now row) (writes_in (place_of row)) = running-so layout now job row leg owned holder (and-second (is_in_state On row) (is_within (place_of row)) runs) found in
-      let entry : Kept = record { id = id; run = job; place = place; bytes = bytes } in
-      let commit : commits now.tables.sets row writes lengths.items (its_start leg owned (step_now row)) ≡ true =
-      and-first (commits now.tables.sets row writes lengths.items (its_start leg owned (step_now row))) (carries_taken taken writes (its_start leg owned (step_now row)))
-      (carried-of layout now job row leg owned (step_now row) (λ row start. commits now.tables.sets row writes lengths.items start && carries_taken taken writes start) kept holder refl found (and-second (nat_le 1 bytes) _ carried))
-      in
-      subst (λ (o : Option RunRow). PointsHold R E (option_map_or (λ row. by_step (λ owned step. after_checkpointed row owned step entry taken writes lengths.items now.tables) row now.tables) o now.tables)) (sym e)
-      (subst (λ (o : Option OwnedStep). PointsHold R E (option_map_or (λ owned. after_checkpointed row owned (step_now row) entry taken writes lengths.items now.tables) o now.tables)) (sym found)
-      (pointed-taken job row leg owned taken writes lengths.items entry holder running commit are)))))
-
   -- ---- a run is selected: it has no point yet
 
   module _ (row : RunRow) (initiator : ℕ) (row_at : run_of now.tables row.number ≡ Some row) (queued : is_in_state Queued row ≡ true) (plain : row.deck.restart ≡ None) (free : may_hold now.tables row ≡ true) where
@@ -248,8 +202,3 @@ module _ (layout : Layout) (now : Office) (kept : IsAgreed layout now) (pointed 
     pointed-chosen =
         rows.run-holds (λ run count. AreStepPoints later.legs run) (AreEntryPoints later.legs) tt (fewer later.legs) (next layout now row initiator kept row_at queued plain free) now.tables
         (rows.row-holds (λ run count. AreStepPoints later.legs run) (AreEntryPoints later.legs) tt (fewer later.legs) now.tables row.number row pointed-there row_at) pointed-there
-
-  pub pointed-selected : (job initiator step : ℕ) (id : Option Name) (deck : Option Job) → may_come layout now (Selected job initiator 0 step id, deck) ≡ true → ArePointed (office_after (Selected job initiator 0 step id, deck) now)
-  pointed-selected job initiator step id deck may =
-      by-selected ArePointed layout now job initiator step id deck kept may
-      (λ row row_at queued plain free. pointed-chosen row initiator row_at queued plain free)

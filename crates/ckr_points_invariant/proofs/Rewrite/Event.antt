@@ -4,41 +4,36 @@ use Rattle.std.specs.Prelude.{nat_le, nat_lt, slice_get}
 use Rattle.std.specs.Option.{option_map, option_map_or}
 use Rattle.std.proofs.lemmas.Bool.{false≢true}
 use Rattle.std.proofs.lemmas.Option.{same_Some}
-use Rattle.arrayvec.specs.ArrayVec.{ArrayVec}
 use Rattle.ckr_base.specs.declared.programs.Output.{Output}
 use Rattle.ckr_base.specs.declared.programs.Output.TheVariants.{Main, Rejects, InPlace}
 use Rattle.ckr_base.specs.declared.programs.Write.{Write}
 use Rattle.ckr_base.proofs.Bools.{and-first, and-second, bool-cases}
 use Rattle.ckr_base.proofs.Numbers.{nat_le-true, nat_lt-true}
 use Rattle.ckr_base.proofs.Options.{option-cases, some-not-none}
-use Rattle.ckr_events.specs.declared.event.Event.TheVariants.{Rewritten}
-use Rattle.ckr_jcl.specs.declared.deck.Job.{Job}
 use Rattle.ckr_library.specs.NameMaps.{Name, Named, same_name, entry_at, with_changed}
 use Rattle.ckr_library.proofs.Named.{at-with_changed, name-same}
 use Rattle.ckr_meaning.specs.EffectiveJob.{Effective, OwnedStep, is_among, names_of}
 use Rattle.ckr_meaning.specs.declared.place.Place.TheVariants.{Within}
 use Rattle.ckr_meaning.specs.StepRun.{StepStart, output_name, within_at, work_at, written_one}
 use Rattle.ckr_volumes.specs.declared.layout.Layout.{Layout}
-use Rattle.ckr_points.specs.declared.run.RunState.TheVariants.{On}
 use Rattle.ckr_points.specs.Tables.{after_rewritten, committed, is_updates, name_with_role, row_rewritten, table_rewritten}
-use Rattle.ckr_points.specs.Follows.{are_lengths, is_in_state, is_rewrite, is_running, is_update, is_within, lengths_follow, of_step}
-use Rattle.ckr_points.specs.Payload.{carries, carries_lengths, carries_rewrite, carries_taken, have_lengths, is_formed_step, records_under, rewrites_nothing, writes_in}
+use Rattle.ckr_points.specs.Follows.{are_lengths, is_update}
+use Rattle.ckr_points.specs.Payload.{carries_lengths, carries_rewrite, carries_taken, have_lengths, is_formed_step, records_under, rewrites_nothing, writes_in}
 use Rattle.ckr_points_invariant.specs.Invariant.{AreAlike, IsAgreed, set_shape, step_now, table_shape}
 use Rattle.ckr_points_invariant.specs.RunningSteps.{IsRunning, its_start}
 use Rattle.ckr_points_library.specs.Commit.{output_names}
-use Rattle.ckr_points.specs.Office.{Leg, Office, office_after}
+use Rattle.ckr_points.specs.Office.{Leg, Office}
 use Rattle.ckr_points.specs.Restart.{place_of}
 use Rattle.ckr_points.specs.Rows.{RunRow, TableSet, with_run}
-use Rattle.ckr_points.specs.Soundness.{may_come, rewrite_of}
-use Rattle.ckr_points_invariant.proofs.WaitingRuns.{follows-of, tested-run}
-use Rattle.ckr_points_invariant.proofs.Steps.Commits.{alike_within, carried-of, formed_step, in_reach, kept-behind, laid_so, out_of_outputs}
+use Rattle.ckr_points.specs.Soundness.{rewrite_of}
+use Rattle.ckr_points_invariant.proofs.Steps.Commits.{alike_within, formed_step, in_reach, kept-behind, laid_so, out_of_outputs}
 use Rattle.ckr_points_invariant.proofs.Library.Extents.{laid-changed, stands_as}
 use Rattle.ckr_points_invariant.proofs.Holders.Moves.{Among}
 use Rattle.ckr_points_invariant.proofs.Rewrite.Invariant.{have_lengths-same, rewritten-alike, rewritten-long, updated-name, within-next}
 use Rattle.ckr_points_invariant.proofs.Writes.Roles.{target, target-named}
-use Rattle.ckr_points_invariant.proofs.Steps.Events.{is-behind, led-by, on-holds, row-rewritten-carried, row-rewritten-made, step-by}
-use Rattle.ckr_points_invariant.proofs.Start.Event.{changed-by, running-so}
+use Rattle.ckr_points_invariant.proofs.Steps.Events.{is-behind, row-rewritten-carried, row-rewritten-made}
 use Rattle.ckr_points_invariant.proofs.Writes.Likeness.{commit-alike, committed-other}
+use Rattle.ckr_points_invariant.proofs.EventRows.{IsRewriting}
 
 in-place : (output : Output) (image : List ℕ) (at : ℕ × List ℕ) → rewrite_of output image ≡ Some at → output ≡ InPlace at.0
 in-place Main image at e = absurd (some-not-none at (sym e))
@@ -145,31 +140,19 @@ module _ (layout : Layout) (office : Office) (job : ℕ) (row : RunRow) (leg : L
       (λ table e stands. stands_as layout _ table.set refl refl refl stands.length_fits stands)
       (laid_so layout office job row leg owned (step_now row) (writes_in (place_of row)) kept running lengths are))
 
-pub kept-rewritten : (layout : Layout) (office : Office) (job taken writes place : ℕ) (lengths : ArrayVec ℕ) (image : List ℕ) (deck : Option Job) → IsAgreed layout office → may_come layout office (Rewritten job taken writes lengths place image, deck) ≡ true → carries layout office (Rewritten job taken writes lengths place image) deck ≡ true → IsAgreed layout (office_after (Rewritten job taken writes lengths place image, deck) office)
-kept-rewritten layout office job taken writes place lengths image deck kept may carried =
-    tested-run office.tables job (λ row. is_running row && lengths_follow office.tables row lengths.items && of_step row (is_rewrite office.tables place image row)) (follows-of layout office (Rewritten job taken writes lengths place image) deck may)
-    (λ row e passes.
-    let early : (is_running row && lengths_follow office.tables row lengths.items) ≡ true = and-first (is_running row && lengths_follow office.tables row lengths.items) (of_step row (is_rewrite office.tables place image row)) passes in
-    let runs : is_running row ≡ true = and-first (is_running row) (lengths_follow office.tables row lengths.items) early in
-    led-by layout office job row kept e (on-holds row.state (and-first (is_in_state On row) (is_within (place_of row)) runs))
-    (λ leg holder.
-    step-by office.tables row lengths.items (and-second (is_running row) (lengths_follow office.tables row lengths.items) early)
-    (λ owned found are.
-    let running : IsRunning office job row leg owned (step_now row) (writes_in (place_of row)) = running-so layout office job row leg owned holder (and-second (is_in_state On row) (is_within (place_of row)) runs) found in
+pub kept-rewritten : (layout : Layout) (office : Office) (job taken writes place : ℕ) (lengths image : List ℕ) (row : RunRow) (leg : Leg) (owned : OwnedStep) → IsAgreed layout office → IsRewriting office job row leg owned taken writes place lengths image → IsAgreed layout (record office { tables = after_rewritten row owned (step_now row) writes lengths office.tables })
+kept-rewritten layout office job taken writes place lengths image row leg owned kept its =
     let start : StepStart = its_start leg owned (step_now row) in
     let from : ℕ = writes_in (place_of row) in
-    let rewrite : is_rewrite office.tables place image row owned ≡ true = sym (ap (λ (o : Option OwnedStep). option_map_or (is_rewrite office.tables place image row) o false) found) ∙ and-second (is_running row && lengths_follow office.tables row lengths.items) (of_step row (is_rewrite office.tables place image row)) passes in
-    let all = carried-of layout office job row leg owned (step_now row) (λ row start. let from = writes_in (place_of row) in nat_lt from writes && rewrites_nothing start from (pred writes) && carries_lengths office.tables.sets writes lengths.items start && carries_taken taken writes start && carries_rewrite office.tables.sets writes place image start) kept holder refl found carried in
-    let four : (nat_lt from writes && rewrites_nothing start from (pred writes) && carries_lengths office.tables.sets writes lengths.items start && carries_taken taken writes start) ≡ true = and-first (nat_lt from writes && rewrites_nothing start from (pred writes) && carries_lengths office.tables.sets writes lengths.items start && carries_taken taken writes start) (carries_rewrite office.tables.sets writes place image start) all in
-    let three : (nat_lt from writes && rewrites_nothing start from (pred writes) && carries_lengths office.tables.sets writes lengths.items start) ≡ true = and-first (nat_lt from writes && rewrites_nothing start from (pred writes) && carries_lengths office.tables.sets writes lengths.items start) (carries_taken taken writes start) four in
-    let two : (nat_lt from writes && rewrites_nothing start from (pred writes)) ≡ true = and-first (nat_lt from writes && rewrites_nothing start from (pred writes)) (carries_lengths office.tables.sets writes lengths.items start) three in
-    let it = last-write start writes _ (and-second (nat_lt from writes && rewrites_nothing start from (pred writes) && carries_lengths office.tables.sets writes lengths.items start && carries_taken taken writes start) (carries_rewrite office.tables.sets writes place image start) all) in
-    let same : leg.job ≡ row.job = (kept.places job row leg holder).job in
-    changed-by layout office job row owned (λ row owned step. after_rewritten row owned step writes lengths.items office.tables) e found
-    (subst (λ (effective : Effective). IsAgreed layout (record office { tables = with_run (record (row_rewritten (step_now row) row) { place = Some (Within (step_now row) writes) }) (record office.tables { sets = with_changed (name_with_role effective.root owned is_updates) (table_rewritten owned.owner (step_now row)) (committed (output_names effective.root owned) lengths.items office.tables.sets) }) })) same
-    (kept-replaced layout office job row leg owned writes it.1 lengths.items it.0 kept running
-    (and-first (is_update owned.step.program) _ rewrite) it.2
+    let four : (nat_lt from writes && rewrites_nothing start from (pred writes) && carries_lengths office.tables.sets writes lengths start && carries_taken taken writes start) ≡ true = and-first (nat_lt from writes && rewrites_nothing start from (pred writes) && carries_lengths office.tables.sets writes lengths start && carries_taken taken writes start) (carries_rewrite office.tables.sets writes place image start) its.carried in
+    let three : (nat_lt from writes && rewrites_nothing start from (pred writes) && carries_lengths office.tables.sets writes lengths start) ≡ true = and-first (nat_lt from writes && rewrites_nothing start from (pred writes) && carries_lengths office.tables.sets writes lengths start) (carries_taken taken writes start) four in
+    let two : (nat_lt from writes && rewrites_nothing start from (pred writes)) ≡ true = and-first (nat_lt from writes && rewrites_nothing start from (pred writes)) (carries_lengths office.tables.sets writes lengths start) three in
+    let it = last-write start writes _ (and-second (nat_lt from writes && rewrites_nothing start from (pred writes) && carries_lengths office.tables.sets writes lengths start && carries_taken taken writes start) (carries_rewrite office.tables.sets writes place image start) its.carried) in
+    let same : leg.job ≡ row.job = (kept.places job row leg its.at.running.holder).job in
+    subst (λ (effective : Effective). IsAgreed layout (record office { tables = with_run (record (row_rewritten (step_now row) row) { place = Some (Within (step_now row) writes) }) (record office.tables { sets = with_changed (name_with_role effective.root owned is_updates) (table_rewritten owned.owner (step_now row)) (committed (output_names effective.root owned) lengths office.tables.sets) }) })) same
+    (kept-replaced layout office job row leg owned writes it.1 lengths it.0 kept its.at.running
+    (and-first (is_update owned.step.program) _ its.rewrite) it.2
     (nat_lt-true from writes (and-first (nat_lt from writes) (rewrites_nothing start from (pred writes)) two))
     (and-second (nat_lt from writes) (rewrites_nothing start from (pred writes)) two)
-    (and-second (nat_lt from writes && rewrites_nothing start from (pred writes)) (carries_lengths office.tables.sets writes lengths.items start) three)
-    (ap (λ (effective : Effective). are_lengths office.tables.sets (output_names effective.root owned) lengths.items) same ∙ are))))))
+    (and-second (nat_lt from writes && rewrites_nothing start from (pred writes)) (carries_lengths office.tables.sets writes lengths start) three)
+    (ap (λ (effective : Effective). are_lengths office.tables.sets (output_names effective.root owned) lengths) same ∙ its.at.are))

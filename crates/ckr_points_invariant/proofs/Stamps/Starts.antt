@@ -1,5 +1,5 @@
 -- A run that is selected, and a step that starts, keep the stamps; and the events are kept with their stamps.
-use Rattle.std.proofs.Common.{◌≡◌, ◌≢◌, ◌≤◌, ℕ, pred, true, List, [], flat_map, take, ap, sym, ◌∙◌, subst, Option, Some, None, arith}
+use Rattle.std.proofs.Common.{◌≡◌, ◌≢◌, ◌≤◌, ℕ, pred, true, List, flat_map, take, ap, sym, ◌∙◌, subst, Some, None, arith, []}
 use Rattle.std.specs.List.{AllByRecursion}
 use Rattle.std.specs.Option.{option_map, is_some}
 use Rattle.std.proofs.lemmas.Bool.{false≢true}
@@ -7,10 +7,7 @@ use Rattle.std.proofs.lemmas.Option.{same_Some}
 use Rattle.ckr_base.proofs.Bools.{bool-cases}
 use Rattle.ckr_base.proofs.Numbers.{number-cases}
 use Rattle.ckr_base.proofs.Options.{some-not-none}
-use Rattle.arrayvec.specs.ArrayVec.{ArrayVec}
-use Rattle.ckr_events.specs.declared.event.Event.TheVariants.{Selected, Started}
 use Rattle.ckr_events.specs.declared.event.Made.{Made}
-use Rattle.ckr_jcl.specs.declared.deck.Job.{Job}
 use Rattle.ckr_library.specs.NameMaps.{Name, Named, entry_at}
 use Rattle.ckr_meaning.specs.LibrarySet.{LibrarySet}
 use Rattle.ckr_meaning.specs.Allotments.{DdAllotment}
@@ -23,20 +20,17 @@ use Rattle.ckr_volumes.specs.declared.layout.Layout.{Layout}
 use Rattle.ckr_points.specs.declared.run.RunState.TheVariants.{Queued}
 use Rattle.ckr_points.specs.Tables.{after_started, start_point}
 use Rattle.ckr_points.specs.Follows.{is_in_state, may_hold}
-use Rattle.ckr_points.specs.Payload.{carries}
 use Rattle.ckr_points_invariant.specs.Invariant.{AreBegun, IsKept, AreStamped, IsAtPlace, HasBegun, IsMarkedShort, IsReached, IsShortMark, step_now, table_shape}
 use Rattle.ckr_points_invariant.specs.RunningSteps.{start_of}
 use Rattle.ckr_points.specs.Marks.{present_of}
-use Rattle.ckr_points.specs.Office.{Leg, Office, leg_of, no_office, office_after}
+use Rattle.ckr_points.specs.Office.{Leg, Office, leg_of, no_office}
 use Rattle.ckr_points.specs.Rows.{RunRow, StartPoint, TableSet, run_of}
-use Rattle.ckr_points.specs.Soundness.{may_come}
 use Rattle.ckr_points_invariant.proofs.Stamps.Beginnings.{places-begun}
 use Rattle.ckr_points_invariant.proofs.Select.Invariant.{chosen, led_here, led_there, next, owns, waits}
-use Rattle.ckr_points_invariant.proofs.WaitingRuns.{by-selected}
 use Rattle.ckr_points_invariant.proofs.Marks.Changes.{holds-run, holds-sets, made_all-holds, opened_all-holds, points-with, row-holds}
 use Rattle.ckr_points_invariant.proofs.Stamps.Tables.{alike_set, begun-legs, led-by-begun, marks-short, marks-weaker, short-legs, short-of, stamped-on, table-short}
 use Rattle.ckr_points_invariant.proofs.Start.Invariant as starting
-use Rattle.ckr_points_invariant.proofs.Start.Event.{StartsNow, by-start}
+use Rattle.ckr_points_invariant.proofs.Start.Event.{StartsNow}
 use Rattle.ckr_points_invariant.proofs.Steps.Walks.{at-opened, start_at-of}
 
 -- ---- selected
@@ -80,11 +74,6 @@ module _ (layout : Layout) (office : Office) (row : RunRow) (initiator : ℕ) (k
         (λ mark short present e. short-legs office later mark.name present (there present.stamp.run (short present e).led) (short present e))
         (holds-run (IsMarkedShort office) (next layout office row initiator kept.events row_at queued plain may) office.tables (row-holds (IsMarkedShort office) office.tables row.number row kept.stamps.marks row_at) kept.stamps.marks);
   }
-
-pub stamped-selected : (layout : Layout) (office : Office) (job initiator step : ℕ) (id : Option Name) (deck : Option Job) → IsKept layout office → may_come layout office (Selected job initiator 0 step id, deck) ≡ true → AreStamped (office_after (Selected job initiator 0 step id, deck) office)
-stamped-selected layout office job initiator step id deck kept may =
-    by-selected AreStamped layout office job initiator step id deck kept.events may
-    (λ row row_at queued plain free. stamped-chosen layout office row initiator kept row_at queued plain free)
 
 -- ---- started
 
@@ -137,11 +126,6 @@ module _ (layout : Layout) (office : Office) (job : ℕ) (row : RunRow) (leg : L
       (points-with (IsMarkedShort office) (start_point row step opened) row.points
       (marks-short office row opened opened_short mine) mine)
       (holds-sets (IsMarkedShort office) office.tables _ (made_all-holds (IsMarkedShort office) (stamp_of owned step) items placed opened (opened_all-holds (IsMarkedShort office) (stamp_of owned step) placed office.tables.sets kept.stamps.marks.entries)) kept.stamps.marks))
-
-pub stamped-start : (layout : Layout) (office : Office) (job step : ℕ) (items : ArrayVec Made) (deck : Option Job) → IsKept layout office → may_come layout office (Started job step items, deck) ≡ true → carries layout office (Started job step items) deck ≡ true → AreStamped (office_after (Started job step items, deck) office)
-stamped-start layout office job step items deck kept may carried =
-    by-start AreStamped layout office job step items deck kept.events may carried
-    (λ row leg owned now. stamped-starts layout office job row leg owned step items.items kept now)
 
 -- ---- no events
 

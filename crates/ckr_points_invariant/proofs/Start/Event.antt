@@ -1,5 +1,5 @@
 -- One more event of a run in a step: it starts, its lengths are committed, it ends, its run ends.
-use Rattle.std.proofs.Common.{◌≡◌, ◌⊎◌, inl, inr, ℕ, Bool, true, false, not, ◌&&◌, ◌||◌, List, [], ◌∷◌, refl, ap, sym, ◌∙◌, subst, Option, Some, None}
+use Rattle.std.proofs.Common.{◌≡◌, ◌⊎◌, inl, inr, ℕ, Bool, true, false, not, ◌&&◌, List, ◌∷◌, refl, ap, sym, ◌∙◌, subst, Option, Some, None, []}
 use Rattle.std.specs.Prelude.{map, nat_eq}
 use Rattle.std.specs.Cmp.Lexicographic.{pointwise}
 use Rattle.std.specs.List.{list_all}
@@ -10,7 +10,7 @@ use Rattle.ckr_base.specs.declared.code.Code.{Code}
 use Rattle.ckr_base.proofs.Bools.{and-first, and-second}
 use Rattle.ckr_base.proofs.Numbers.{equal-true}
 use Rattle.ckr_base.proofs.Options.{option-cases}
-use Rattle.ckr_events.specs.declared.event.Event.TheVariants.{Held, Started}
+use Rattle.ckr_events.specs.declared.event.Event.TheVariants.{Started}
 use Rattle.ckr_events.specs.declared.event.Made.{Made}
 use Rattle.ckr_jcl.specs.declared.deck.Job.{Job}
 use Rattle.ckr_meaning.specs.EffectiveJob.{OwnedStep, flaws_in, placed_in, stamp_of}
@@ -18,26 +18,20 @@ use Rattle.ckr_meaning.specs.declared.place.Place.{Place}
 use Rattle.ckr_meaning.specs.declared.place.Place.TheVariants.{Before, Opened, Within}
 use Rattle.ckr_meaning.specs.JobRun.{is_bypassed}
 use Rattle.ckr_volumes.specs.declared.layout.Layout.{Layout}
-use Rattle.ckr_points.specs.declared.run.RunState.TheVariants.{On, Held as HeldRun, Released as ReleasedRun}
+use Rattle.ckr_points.specs.declared.run.RunState.TheVariants.{On, Held as HeldRun}
 use Rattle.ckr_points.specs.Tables.{after_held, after_started}
-use Rattle.ckr_points.specs.Follows.{are_items, are_made_clear, is_part_whole, made_dds, is_empty, is_in_state, is_running, is_within, lengths_follow, may_start, started_follows}
-use Rattle.ckr_points.specs.Payload.{carries, commits, writes_in}
+use Rattle.ckr_points.specs.Follows.{are_items, are_made_clear, is_part_whole, made_dds, is_empty, is_in_state, is_within, may_start, started_follows}
+use Rattle.ckr_points.specs.Payload.{carries, writes_in}
 use Rattle.ckr_points_invariant.specs.Invariant.{IsHolder, IsAgreed, step_now}
 use Rattle.ckr_points_invariant.specs.RunningSteps.{IsRunning}
 use Rattle.ckr_points.specs.Office.{Leg, Office, is_holder, office_after}
-use Rattle.ckr_points.specs.Restart.{by_step, place_of}
-use Rattle.ckr_points.specs.Rows.{RunRow, TablesModel, run_of, standing_of, step_of_run, table_ways}
+use Rattle.ckr_points.specs.Restart.{place_of}
+use Rattle.ckr_points.specs.Rows.{RunRow, standing_of, step_of_run, table_ways}
 use Rattle.ckr_points.specs.Soundness.{may_come}
 use Rattle.ckr_points_invariant.proofs.WaitingRuns.{follows-of, tested-run}
-use Rattle.ckr_points_invariant.proofs.Steps.Commits.{carried-of}
-use Rattle.ckr_points_invariant.proofs.Steps.Events.{kept-commit, led-by, on-holds, running-holds, running-within, step-by, within-is}
+use Rattle.ckr_points_invariant.proofs.Steps.Events.{kept-commit, led-by, on-holds, within-is}
 use Rattle.ckr_points_invariant.proofs.Start.Invariant.{kept-started}
-
--- the change of a run's tables, by its row and its step
-pub changed-by : (layout : Layout) (office : Office) (job : ℕ) (row : RunRow) (owned : OwnedStep) (change : RunRow → OwnedStep → ℕ → TablesModel) → run_of office.tables job ≡ Some row → step_of_run row (step_now row) ≡ Some owned → IsAgreed layout (record office { tables = change row owned (step_now row) }) → IsAgreed layout (record office { tables = option_map_or (λ row. by_step (λ owned step. change row owned step) row office.tables) (run_of office.tables job) office.tables })
-changed-by layout office job row owned change e found kept =
-    subst (λ (o : Option RunRow). IsAgreed layout (record office { tables = option_map_or (λ row. by_step (λ owned step. change row owned step) row office.tables) o office.tables })) (sym e)
-    (subst (λ (o : Option OwnedStep). IsAgreed layout (record office { tables = option_map_or (λ owned. change row owned (step_now row)) o office.tables })) (sym found) kept)
+use Rattle.ckr_points_invariant.proofs.EventRows.{IsCommitting}
 
 -- a holder in its step
 pub running-so : (layout : Layout) (office : Office) (job : ℕ) (row : RunRow) (leg : Leg) (owned : OwnedStep) → IsHolder office job row leg → is_within (place_of row) ≡ true → step_of_run row (step_now row) ≡ Some owned → IsRunning office job row leg owned (step_now row) (writes_in (place_of row))
@@ -45,20 +39,11 @@ running-so layout office job row leg owned holder within found = record { holder
 
 -- ---- held
 
-pub kept-held : (layout : Layout) (office : Office) (job writes : ℕ) (code : Code) (lengths : ArrayVec ℕ) (deck : Option Job) → IsAgreed layout office → may_come layout office (Held job code writes lengths, deck) ≡ true → carries layout office (Held job code writes lengths) deck ≡ true → IsAgreed layout (office_after (Held job code writes lengths, deck) office)
-kept-held layout office job writes code lengths deck kept may carried =
-    tested-run office.tables job (λ row. (is_running row || is_in_state ReleasedRun row) && lengths_follow office.tables row lengths.items) (follows-of layout office (Held job code writes lengths) deck may)
-    (λ row e passes.
-    let runs : (is_running row || is_in_state ReleasedRun row) ≡ true = and-first (is_running row || is_in_state ReleasedRun row) (lengths_follow office.tables row lengths.items) passes in
-    led-by layout office job row kept e (running-holds row runs)
-    (λ leg holder.
-    step-by office.tables row lengths.items (and-second (is_running row || is_in_state ReleasedRun row) (lengths_follow office.tables row lengths.items) passes)
-    (λ owned found are.
-    let running : IsRunning office job row leg owned (step_now row) (writes_in (place_of row)) = running-so layout office job row leg owned holder (running-within office.tables row leg (kept.places job row leg holder) runs) found in
-    changed-by layout office job row owned (λ row owned step. after_held row owned step code writes lengths.items office.tables) e found
-    (kept-commit layout office job row (record row { state = HeldRun; initiator = None; code = Some code; place = Some (Within (step_now row) writes) }) leg owned writes lengths.items kept running
+pub kept-held : (layout : Layout) (office : Office) (job writes : ℕ) (code : Code) (lengths : List ℕ) (row : RunRow) (leg : Leg) (owned : OwnedStep) → IsAgreed layout office → IsCommitting office job row leg owned writes lengths → IsAgreed layout (record office { tables = after_held row owned (step_now row) code writes lengths office.tables })
+kept-held layout office job writes code lengths row leg owned kept its =
+    kept-commit layout office job row (record row { state = HeldRun; initiator = None; code = Some code; place = Some (Within (step_now row) writes) }) leg owned writes lengths kept its.at.running
     (record { number = refl; deck = refl; job = refl; own_from = refl; rcs = refl; passed = refl; lost = refl; stands = refl; holds = refl; made = λ owned step. refl; carried = refl })
-    (carried-of layout office job row leg owned (step_now row) (λ row. commits office.tables.sets row writes lengths.items) kept holder refl found carried) are))))
+    its.commit its.at.are
 
 -- ---- started
 

@@ -1,13 +1,11 @@
 -- One more event of a run in its step leaves what runs keep of the steps that they began.
-use Rattle.std.proofs.Common.{◌≡◌, ◌≢◌, ◌≤◌, ◌<◌, ℕ, suc, Bool, true, false, cond, if◌then◌else◌, ◌&&◌, ◌||◌, List, [], ◌∷◌, ◌++◌, map, refl, ap, sym, ◌∙◌, subst, Option, Some, None, arith}
+use Rattle.std.proofs.Common.{◌≡◌, ◌≢◌, ◌≤◌, ◌<◌, ℕ, suc, Bool, true, false, cond, if◌then◌else◌, List, ◌∷◌, ◌++◌, map, refl, ap, sym, ◌∙◌, subst, Option, Some, None, arith, []}
 use Rattle.std.specs.Prelude.{◌==◌}
 use Rattle.std.specs.Option.{option_map}
-use Rattle.arrayvec.specs.ArrayVec.{ArrayVec}
 use Rattle.ckr_base.specs.declared.code.Code.{Code}
-use Rattle.ckr_base.proofs.Bools.{and-first, and-second}
 use Rattle.ckr_base.proofs.Numbers.{equal-true, number-cases}
 use Rattle.ckr_base.proofs.Sequences.{find-passes}
-use Rattle.ckr_events.specs.declared.event.Event.TheVariants.{Checkpointed, Held, Restarted, Rewritten, Started, StepEnded}
+use Rattle.ckr_events.specs.declared.event.Event.TheVariants.{Restarted}
 use Rattle.ckr_events.specs.declared.event.Made.{Made}
 use Rattle.ckr_jcl.specs.declared.deck.Job.{Job}
 use Rattle.ckr_library.specs.declared.sets.Kept.{Kept}
@@ -16,12 +14,11 @@ use Rattle.ckr_meaning.specs.EffectiveJob.{OwnedStep}
 use Rattle.ckr_meaning.specs.declared.place.Place.TheVariants.{Before, Within}
 use Rattle.ckr_volumes.specs.declared.layout.Layout.{Layout}
 use Rattle.ckr_points_library.specs.Commit.{output_names}
-use Rattle.ckr_points.specs.declared.run.RunState.TheVariants.{On, Held as HeldRun, Released as ReleasedRun}
-use Rattle.ckr_points.specs.Follows.{is_checkpoint, is_in_state, is_rewrite, is_running, is_within, lengths_follow, of_step}
+use Rattle.ckr_points.specs.declared.run.RunState.TheVariants.{Held as HeldRun}
 use Rattle.ckr_points.specs.Marks.{point_at, with_point}
 use Rattle.ckr_points.specs.Office.{Leg, Office, office_after}
 use Rattle.ckr_points.specs.Payload.{carries}
-use Rattle.ckr_points.specs.Restart.{place_of, point_restarted, step_in}
+use Rattle.ckr_points.specs.Restart.{point_restarted}
 use Rattle.ckr_points.specs.Rows.{RunRow, StartPoint, TableSet, TablesModel, with_run}
 use Rattle.ckr_points.specs.Soundness.{may_come}
 use Rattle.ckr_points.specs.Tables.{after_checkpointed, after_commit, after_dispositions, after_held, after_rewritten, after_started, after_step_ended, committed, entry_point, fresh_effect, is_checkpoints, is_updates, kept_entry, name_with_role, point_rewritten, row_rewritten, start_point, table_rewritten, with_kept_entry}
@@ -33,16 +30,13 @@ use Rattle.ckr_points_invariant.proofs.Holders.Places.{HasNext, owners-same}
 use Rattle.ckr_points_invariant.proofs.Holders.Rows.{run-other, run-same}
 use Rattle.ckr_points_invariant.proofs.Marks.Points.{point_at-new, point_at-other}
 use Rattle.ckr_points_invariant.proofs.Readiness.Office.{entries-restorable, steps-restorable}
-use Rattle.ckr_points_invariant.proofs.Readiness.Rows.{changed-to}
 use Rattle.ckr_points_invariant.proofs.Restart.Event.{by-run, entry-by, row_back, row_then, sets_then, sets_then_back, start-by}
-use Rattle.ckr_points_invariant.proofs.Start.Event.{StartsNow, by-start}
+use Rattle.ckr_points_invariant.proofs.Start.Event.{StartsNow}
 use Rattle.ckr_points_invariant.proofs.Start.Invariant as starting
 use Rattle.ckr_points_invariant.proofs.StartedSteps.Kin.{kin-next}
 use Rattle.ckr_points_invariant.proofs.StartedSteps.ReturnCodes.{codes-behind}
 use Rattle.ckr_points_invariant.proofs.StartedSteps.Rows.{begun-by, begun-moved, begun-with, has-next, row-here}
 use Rattle.ckr_points_invariant.proofs.StartedSteps.Runs.{begun-next, begun-now, marks_at}
-use Rattle.ckr_points_invariant.proofs.Steps.Events.{led-by, on-holds, running-holds, step-by}
-use Rattle.ckr_points_invariant.proofs.WaitingRuns.{follows-of, tested-run}
 
 -- ---- the marks of points
 
@@ -76,8 +70,8 @@ marks-restarted points step number point got =
 module _ (layout : Layout) (now : Office) (kept : IsAgreed layout now) (begun : AreBegunSteps now) where
   -- ---- a step starts
 
-  started-so : (job step : ℕ) (items : List Made) (row : RunRow) (leg : Leg) (owned : OwnedStep) → StartsNow layout now job row leg owned step items → AreBegunSteps (record now { tables = after_started row owned step items now.tables })
-  started-so job step items row leg owned starts =
+  pub begun-started : (job step : ℕ) (items : List Made) (row : RunRow) (leg : Leg) (owned : OwnedStep) → StartsNow layout now job row leg owned step items → AreBegunSteps (record now { tables = after_started row owned step items now.tables })
+  begun-started job step items row leg owned starts =
       begun-by layout now kept job row row next leg now.tables sets now.library starts.holder starts.holder.row_at refl (λ number apart. refl) begun
       (record {
         job = old.job;
@@ -134,76 +128,40 @@ module _ (layout : Layout) (now : Office) (kept : IsAgreed layout now) (begun : 
           let under : number ≤ step_now row = old.so_far number its got in
           omega (arith, is, under, apart)
 
-  pub begun-started : (job step : ℕ) (items : ArrayVec Made) (deck : Option Job) → may_come layout now (Started job step items, deck) ≡ true → carries layout now (Started job step items) deck ≡ true → AreBegunSteps (office_after (Started job step items, deck) now)
-  begun-started job step items deck may carried =
-      by-start AreBegunSteps layout now job step items deck kept may carried (λ row leg owned starts. started-so job step items.items row leg owned starts)
-
   -- ---- within a step
 
-  pub begun-held : (job writes : ℕ) (code : Code) (lengths : ArrayVec ℕ) (deck : Option Job) → may_come layout now (Held job code writes lengths, deck) ≡ true → AreBegunSteps (office_after (Held job code writes lengths, deck) now)
-  begun-held job writes code lengths deck may =
-      tested-run now.tables job (λ row. (is_running row || is_in_state ReleasedRun row) && lengths_follow now.tables row lengths.items) (follows-of layout now (Held job code writes lengths) deck may)
-      (λ row e passes.
-      led-by layout now job row kept e (running-holds row (and-first (is_running row || is_in_state ReleasedRun row) (lengths_follow now.tables row lengths.items) passes))
-      (λ leg holder.
-      step-by now.tables row lengths.items (and-second (is_running row || is_in_state ReleasedRun row) (lengths_follow now.tables row lengths.items) passes)
-      (λ owned found are.
-      changed-to AreBegunSteps now job row owned (λ row owned step. after_held row owned step code writes lengths.items now.tables) e found
-      (begun-moved layout now kept job row (record row { state = HeldRun; initiator = None; code = Some code; place = Some (Within (step_now row) writes) }) leg (committed (output_names row.job.root owned) lengths.items now.tables.sets) now.library begun holder
-      (record { number = refl; deck = refl; job = refl; marks = λ step. refl; rcs = λ step before. refl; step = omega arith })))))
+  pub begun-held : (job writes : ℕ) (code : Code) (lengths : List ℕ) (row : RunRow) (leg : Leg) (owned : OwnedStep) → IsHolder now job row leg → AreBegunSteps (record now { tables = after_held row owned (step_now row) code writes lengths now.tables })
+  begun-held job writes code lengths row leg owned holder =
+      begun-moved layout now kept job row (record row { state = HeldRun; initiator = None; code = Some code; place = Some (Within (step_now row) writes) }) leg (committed (output_names row.job.root owned) lengths now.tables.sets) now.library begun holder
+      (record { number = refl; deck = refl; job = refl; marks = λ step. refl; rcs = λ step before. refl; step = omega arith })
 
-  pub begun-rewritten : (job taken writes place : ℕ) (lengths : ArrayVec ℕ) (image : List ℕ) (deck : Option Job) → may_come layout now (Rewritten job taken writes lengths place image, deck) ≡ true → AreBegunSteps (office_after (Rewritten job taken writes lengths place image, deck) now)
-  begun-rewritten job taken writes place lengths image deck may =
-      tested-run now.tables job (λ row. is_running row && lengths_follow now.tables row lengths.items && of_step row (is_rewrite now.tables place image row)) (follows-of layout now (Rewritten job taken writes lengths place image) deck may)
-      (λ row e passes.
-      let early : (is_running row && lengths_follow now.tables row lengths.items) ≡ true = and-first (is_running row && lengths_follow now.tables row lengths.items) (of_step row (is_rewrite now.tables place image row)) passes in
-      led-by layout now job row kept e (on-holds row.state (and-first (is_in_state On row) (is_within (place_of row)) (and-first (is_running row) (lengths_follow now.tables row lengths.items) early)))
-      (λ leg holder.
-      step-by now.tables row lengths.items (and-second (is_running row) (lengths_follow now.tables row lengths.items) early)
-      (λ owned found are.
-      let done : TablesModel = after_commit (row_rewritten (step_now row) row) owned (step_now row) writes lengths.items now.tables in
-      changed-to AreBegunSteps now job row owned (λ row owned step. after_rewritten row owned step writes lengths.items now.tables) e found
-      (begun-moved layout now kept job row (record (row_rewritten (step_now row) row) { place = Some (Within (step_now row) writes) }) leg (with_changed (name_with_role row.job.root owned is_updates) (table_rewritten owned.owner (step_now row)) done.sets) now.library begun holder
-      (record { number = refl; deck = refl; job = refl; marks = λ step. marks-rewritten (step_now row) step row.points; rcs = λ step before. refl; step = omega arith })))))
+  pub begun-rewritten : (job writes : ℕ) (lengths : List ℕ) (row : RunRow) (leg : Leg) (owned : OwnedStep) → IsHolder now job row leg → AreBegunSteps (record now { tables = after_rewritten row owned (step_now row) writes lengths now.tables })
+  begun-rewritten job writes lengths row leg owned holder =
+      let done : TablesModel = after_commit (row_rewritten (step_now row) row) owned (step_now row) writes lengths now.tables in
+      begun-moved layout now kept job row (record (row_rewritten (step_now row) row) { place = Some (Within (step_now row) writes) }) leg (with_changed (name_with_role row.job.root owned is_updates) (table_rewritten owned.owner (step_now row)) done.sets) now.library begun holder
+      (record { number = refl; deck = refl; job = refl; marks = λ step. marks-rewritten (step_now row) step row.points; rcs = λ step before. refl; step = omega arith })
 
-  pub begun-checkpointed : (job taken writes place bytes : ℕ) (id : Name) (lengths : ArrayVec ℕ) (deck : Option Job) → may_come layout now (Checkpointed job id taken writes lengths place bytes, deck) ≡ true → AreBegunSteps (office_after (Checkpointed job id taken writes lengths place bytes, deck) now)
-  begun-checkpointed job taken writes place bytes id lengths deck may =
-      tested-run now.tables job (λ row. is_running row && lengths_follow now.tables row lengths.items && of_step row (is_checkpoint now.tables id lengths.items place bytes row)) (follows-of layout now (Checkpointed job id taken writes lengths place bytes) deck may)
-      (λ row e passes.
-      let early : (is_running row && lengths_follow now.tables row lengths.items) ≡ true = and-first (is_running row && lengths_follow now.tables row lengths.items) (of_step row (is_checkpoint now.tables id lengths.items place bytes row)) passes in
-      led-by layout now job row kept e (on-holds row.state (and-first (is_in_state On row) (is_within (place_of row)) (and-first (is_running row) (lengths_follow now.tables row lengths.items) early)))
-      (λ leg holder.
-      step-by now.tables row lengths.items (and-second (is_running row) (lengths_follow now.tables row lengths.items) early)
-      (λ owned found are.
-      let entry : Kept = record { id = id; run = job; place = place; bytes = bytes } in
+  pub begun-checkpointed : (job taken writes : ℕ) (lengths : List ℕ) (entry : Kept) (row : RunRow) (leg : Leg) (owned : OwnedStep) → IsHolder now job row leg → AreBegunSteps (record now { tables = after_checkpointed row owned (step_now row) entry taken writes lengths now.tables })
+  begun-checkpointed job taken writes lengths entry row leg owned holder =
       let set : Name = name_with_role row.job.root owned is_checkpoints in
       let counted : RunRow = record row { count = suc row.count; in_effect = Some (fresh_effect set entry) } in
-      let done : TablesModel = after_commit counted owned (step_now row) writes lengths.items now.tables in
-      changed-to AreBegunSteps now job row owned (λ row owned step. after_checkpointed row owned step entry taken writes lengths.items now.tables) e found
-      (begun-moved layout now kept job row (record counted { place = Some (Within (step_now row) writes) }) leg (with_changed set (with_kept_entry (kept_entry entry (entry_point row owned (step_now row) taken writes done.sets))) done.sets) now.library begun holder
-      (record { number = refl; deck = refl; job = refl; marks = λ step. refl; rcs = λ step before. refl; step = omega arith })))))
+      let done : TablesModel = after_commit counted owned (step_now row) writes lengths now.tables in
+      begun-moved layout now kept job row (record counted { place = Some (Within (step_now row) writes) }) leg (with_changed set (with_kept_entry (kept_entry entry (entry_point row owned (step_now row) taken writes done.sets))) done.sets) now.library begun holder
+      (record { number = refl; deck = refl; job = refl; marks = λ step. refl; rcs = λ step before. refl; step = omega arith })
 
   -- ---- a step ends
 
-  pub begun-step_end : (job step rc writes : ℕ) (lengths : ArrayVec ℕ) (deck : Option Job) → may_come layout now (StepEnded job step rc writes lengths, deck) ≡ true → AreBegunSteps (office_after (StepEnded job step rc writes lengths, deck) now)
-  begun-step_end job step rc writes lengths deck may =
-      tested-run now.tables job (λ row. is_running row && step_in (place_of row) == step && lengths_follow now.tables row lengths.items) (follows-of layout now (StepEnded job step rc writes lengths) deck may)
-      (λ row e passes.
-      let runs : is_running row ≡ true = and-first (is_running row) (step_in (place_of row) == step) (and-first (is_running row && step_in (place_of row) == step) (lengths_follow now.tables row lengths.items) passes) in
-      led-by layout now job row kept e (on-holds row.state (and-first (is_in_state On row) (is_within (place_of row)) runs))
-      (λ leg holder.
-      step-by now.tables row lengths.items (and-second (is_running row && step_in (place_of row) == step) (lengths_follow now.tables row lengths.items) passes)
-      (λ owned found are.
-      let sets : Named TableSet = committed (output_names row.job.root owned) lengths.items now.tables.sets in
+  pub begun-step_done : (job rc writes : ℕ) (lengths : List ℕ) (row : RunRow) (leg : Leg) (owned : OwnedStep) → IsHolder now job row leg → AreBegunSteps (record now { tables = after_step_ended row owned (step_now row) rc writes lengths now.tables })
+  begun-step_done job rc writes lengths row leg owned holder =
+      let sets : Named TableSet = committed (output_names row.job.root owned) lengths now.tables.sets in
       let mid : RunRow = record row { place = Some (Within (step_now row) writes) } in
       let done : TablesModel = with_run mid (record now.tables { sets = sets }) in
       let disposed = after_dispositions row owned (step_now row) false done in
       let next : RunRow = record row { place = Some (Before (suc (step_now row))); rcs = row.rcs ++ (step_now row, rc) ∷ []; in_effect = None; passed = disposed.passed } in
-      changed-to AreBegunSteps now job row owned (λ row owned step. after_step_ended row owned step rc writes lengths.items now.tables) e found
-      (begun-with layout now kept job row mid next leg done disposed.sets now.library holder
-      (run-same (record now.tables { sets = sets }) mid row job e (kept.numbered job row e)) refl
-      (λ number differs. run-other (record now.tables { sets = sets }) mid number (λ same. differs (same ∙ kept.numbered job row e))) begun
-      (record { number = refl; deck = refl; job = refl; marks = λ step. refl; rcs = λ step before. codes-behind step (step_now row) rc row.rcs before; step = omega arith })))))
+      begun-with layout now kept job row mid next leg done disposed.sets now.library holder
+      (run-same (record now.tables { sets = sets }) mid row job holder.row_at (kept.numbered job row holder.row_at)) refl
+      (λ number differs. run-other (record now.tables { sets = sets }) mid number (λ same. differs (same ∙ kept.numbered job row holder.row_at))) begun
+      (record { number = refl; deck = refl; job = refl; marks = λ step. refl; rcs = λ step before. codes-behind step (step_now row) rc row.rcs before; step = omega arith })
 
   -- ---- a run goes back
 

@@ -1,5 +1,5 @@
 -- One more event of a run that is in a step.
-use Rattle.std.proofs.Common.{◌≡◌, ℕ, Bool, true, false, cond, ◌||◌, if◌then◌else◌, List, [], ◌∷◌, map, refl, ap, sym, ◌∙◌, subst, Some}
+use Rattle.std.proofs.Common.{◌≡◌, ℕ, Bool, true, false, cond, ◌||◌, if◌then◌else◌, List, ◌∷◌, map, refl, ap, sym, ◌∙◌, subst, Some, []}
 use Rattle.std.specs.Prelude.{◌==◌}
 use Rattle.std.specs.Option.{option_map_or}
 use Rattle.std.proofs.lemmas.Bool.{false≢true}
@@ -35,6 +35,15 @@ on-holds ReleasedRun e = absurd (false≢true e)
 on-holds EndedRun e = absurd (false≢true e)
 on-holds DeniedRun e = absurd (false≢true e)
 on-holds PurgedRun e = absurd (false≢true e)
+
+pub held-holds : (state : RunState) → (state_number state == 3) ≡ true → (is_holder state ≡ true) × ((state_number state == 2) ≡ false)
+held-holds Queued e = absurd (false≢true e)
+held-holds On e = absurd (false≢true e)
+held-holds HeldRun e = (refl, refl)
+held-holds ReleasedRun e = absurd (false≢true e)
+held-holds EndedRun e = absurd (false≢true e)
+held-holds DeniedRun e = absurd (false≢true e)
+held-holds PurgedRun e = absurd (false≢true e)
 
 released-holds : (state : RunState) → (state_number state == 4) ≡ true → (is_holder state ≡ true) × ((state_number state == 2) ≡ false)
 released-holds Queued e = absurd (false≢true e)

@@ -1,54 +1,43 @@
 -- One more event of a run in its step leaves what data sets keep with their entries.
-use Rattle.std.proofs.Common.{◌≡◌, ◌≤◌, ℕ, suc, Bool, true, false, cond, if◌then◌else◌, ◌&&◌, ◌||◌, List, [], ◌∷◌, ◌++◌, map, refl, ap, sym, ◌∙◌, subst, Option, Some, None, arith}
-use Rattle.std.specs.Prelude.{◌==◌, nat_le}
-use Rattle.std.specs.Option.{option_map, option_map_or}
+use Rattle.std.proofs.Common.{◌≡◌, ◌≤◌, ℕ, suc, Bool, true, false, cond, if◌then◌else◌, List, ◌∷◌, ◌++◌, map, refl, ap, sym, ◌∙◌, subst, Option, Some, None, arith, []}
+use Rattle.std.specs.Prelude.{◌==◌}
+use Rattle.std.specs.Option.{option_map}
 use Rattle.std.proofs.lemmas.Bool.{false≢true}
 use Rattle.std.proofs.lemmas.Option.{same_Some}
-use Rattle.arrayvec.specs.ArrayVec.{ArrayVec}
 use Rattle.ckr_base.specs.declared.code.Code.{Code}
-use Rattle.ckr_base.proofs.Bools.{and-first, and-second}
-use Rattle.ckr_base.proofs.Numbers.{nat_le-true}
 use Rattle.ckr_base.proofs.Options.{option_map-some, some-one}
-use Rattle.ckr_events.specs.declared.event.Event.TheVariants.{Checkpointed, Held, Rewritten, Started, StepEnded}
 use Rattle.ckr_events.specs.declared.event.Made.{Made}
-use Rattle.ckr_jcl.specs.declared.deck.Job.{Job}
 use Rattle.ckr_library.specs.NameMaps.{Name, Named, with_changed}
 use Rattle.ckr_meaning.specs.EffectiveJob.{OwnedStep}
 use Rattle.ckr_meaning.specs.declared.place.Place.TheVariants.{Before, Within}
 use Rattle.ckr_volumes.specs.declared.layout.Layout.{Layout}
 use Rattle.ckr_points_library.specs.Commit.{output_names}
-use Rattle.ckr_points.specs.declared.run.RunState.TheVariants.{On, Held as HeldRun, Released as ReleasedRun}
-use Rattle.ckr_points.specs.Follows.{are_lengths, is_checkpoint, is_in_state, is_rewrite, is_running, is_within, lengths_follow, of_step, own_step}
+use Rattle.ckr_points.specs.declared.run.RunState.TheVariants.{Held as HeldRun}
+use Rattle.ckr_points.specs.Follows.{are_lengths, is_within, own_step}
 use Rattle.ckr_points.specs.Marks.{point_at}
-use Rattle.ckr_points.specs.Office.{Leg, Office, office_after}
-use Rattle.ckr_points.specs.Payload.{carries, carries_taken, commits, writes_in}
-use Rattle.ckr_points.specs.Restart.{place_of, step_in}
+use Rattle.ckr_points.specs.Office.{Leg, Office}
+use Rattle.ckr_points.specs.Restart.{place_of}
 use Rattle.ckr_points.specs.Rows.{EffectPoint, RunRow, StartPoint, TableSet, TablesModel, standing_of, with_run}
-use Rattle.ckr_points.specs.Soundness.{may_come}
-use Rattle.ckr_points.specs.Tables.{after_checkpointed, after_dispositions, after_held, after_rewritten, after_step_ended, committed, earlier_made, effect_rewritten, is_updates, name_with_role, own_made, point_rewritten, row_rewritten, run_disposals, table_rewritten}
+use Rattle.ckr_points.specs.Tables.{after_checkpointed, after_dispositions, after_held, after_rewritten, after_step_ended, committed, earlier_made, effect_rewritten, is_updates, name_with_role, own_made, point_rewritten, row_rewritten, run_disposals, table_rewritten, after_started}
 use Rattle.ckr_points_invariant.specs.Invariant.{IsAgreed, IsHolder, step_now}
 use Rattle.ckr_points_invariant.specs.Points.{ArePointed}
 use Rattle.ckr_points_invariant.specs.Readiness.{AreReady, IsCheck}
 use Rattle.ckr_points_invariant.specs.WrittenEntries.{AreWrittenEntries, HasGrown, HasWrittenEntries}
-use Rattle.ckr_points_invariant.specs.RunningSteps.{IsRunning, its_start}
 use Rattle.ckr_points_invariant.proofs.Holders.Rows.{run-other, run-same}
-use Rattle.ckr_points_invariant.proofs.OtherRuns.Sets.{LeavesApart, apart-checkpointed, apart-held, apart-rewritten, apart-started, apart-step_end}
+use Rattle.ckr_points_invariant.proofs.OtherRuns.Sets.{LeavesApart}
 use Rattle.ckr_points_invariant.proofs.Readiness.Checkpoints.{checked_row, checked_sets}
 use Rattle.ckr_points_invariant.proofs.Readiness.Commits.{committed-keeps}
 use Rattle.ckr_points_invariant.proofs.Readiness.Office.{step-point}
-use Rattle.ckr_points_invariant.proofs.Readiness.Rows.{changed-to}
-use Rattle.ckr_points_invariant.proofs.Start.Event.{by-start, running-so}
 use Rattle.ckr_points_invariant.proofs.StartedSteps.Runs.{marked-was, marks_at}
 use Rattle.ckr_points_invariant.proofs.StartedSteps.StepEvents.{marks-rewritten}
-use Rattle.ckr_points_invariant.proofs.Steps.Commits.{carried-of}
-use Rattle.ckr_points_invariant.proofs.Steps.Events.{led-by, on-holds, running-holds, running-within, step-by}
-use Rattle.ckr_points_invariant.proofs.WaitingRuns.{follows-of, tested-run}
 use Rattle.ckr_points_invariant.proofs.WrittenEntries.Checkpoints.{checked-grown, checked-has}
 use Rattle.ckr_points_invariant.proofs.WrittenEntries.Entries.{HasPointAs, entries-through, same-points, same-step}
 use Rattle.ckr_points_invariant.proofs.WrittenEntries.Growth.{IsEffectLong, effect-kept, kept-changed, long-changed, long-committed}
 use Rattle.ckr_points_invariant.proofs.WrittenEntries.Offices.{written-moved, written-on}
 use Rattle.ckr_points_invariant.proofs.WrittenEntries.Sets.{committed-has, disposed_all-has, rewritten-has}
 use Rattle.ckr_points_invariant.proofs.WrittenEntries.Starts.{written-step}
+use Rattle.ckr_points_invariant.proofs.EventRows.{IsChecking, IsCommitting, IsRewriting}
+use Rattle.ckr_points_invariant.proofs.Start.Event.{StartsNow}
 
 -- ---- the points of a run that rewrites
 
@@ -92,11 +81,8 @@ module _ (layout : Layout) (now : Office) (kept : IsAgreed layout now) (pointed 
   abbrev Has : Name → TableSet → Type 0
   Has = HasWrittenEntries now
 
-  pub written-started : (job step : ℕ) (items : ArrayVec Made) (deck : Option Job) → may_come layout now (Started job step items, deck) ≡ true → carries layout now (Started job step items) deck ≡ true → AreWrittenEntries (office_after (Started job step items, deck) now)
-  written-started job step items deck may carried =
-      by-start (λ later. LeavesApart now job later.tables.sets → AreWrittenEntries later) layout now job step items deck kept may carried
-      (λ row leg owned starts. written-step layout now job row leg owned step items.items kept ready starts pointed written)
-      (apart-started layout now kept job step items deck may carried)
+  pub written-started : (job step : ℕ) (items : List Made) (row : RunRow) (leg : Leg) (owned : OwnedStep) → StartsNow layout now job row leg owned step items → LeavesApart now job (after_started row owned step items now.tables).sets → AreWrittenEntries (record now { tables = after_started row owned step items now.tables })
+  written-started job step items row leg owned starts = written-step layout now job row leg owned step items kept ready starts pointed written
 
   -- ---- lengths are committed
 
@@ -116,27 +102,18 @@ module _ (layout : Layout) (now : Office) (kept : IsAgreed layout now) (pointed 
               (λ one there. was.effect effect one in_effect there) entry;
         }
 
-  pub written-held : (job writes : ℕ) (code : Code) (lengths : ArrayVec ℕ) (deck : Option Job) → may_come layout now (Held job code writes lengths, deck) ≡ true → AreWrittenEntries (office_after (Held job code writes lengths, deck) now)
-  written-held job writes code lengths deck may =
-      tested-run now.tables job (λ row. (is_running row || is_in_state ReleasedRun row) && lengths_follow now.tables row lengths.items) (follows-of layout now (Held job code writes lengths) deck may)
-      (λ row e passes.
-      let runs : (is_running row || is_in_state ReleasedRun row) ≡ true = and-first (is_running row || is_in_state ReleasedRun row) (lengths_follow now.tables row lengths.items) passes in
-      led-by layout now job row kept e (running-holds row runs)
-      (λ leg holder.
-      step-by now.tables row lengths.items (and-second (is_running row || is_in_state ReleasedRun row) (lengths_follow now.tables row lengths.items) passes)
-      (λ owned found are.
-      let within : is_within (place_of row) ≡ true = running-within now.tables row leg (kept.places job row leg holder) runs in
+  pub written-held : (job writes : ℕ) (code : Code) (lengths : List ℕ) (row : RunRow) (leg : Leg) (owned : OwnedStep) → IsCommitting now job row leg owned writes lengths → LeavesApart now job (after_held row owned (step_now row) code writes lengths now.tables).sets → AreWrittenEntries (record now { tables = after_held row owned (step_now row) code writes lengths now.tables })
+  written-held job writes code lengths row leg owned its left =
+      let holder = its.at.running.holder in
+      let found = its.at.running.found in
       let next : RunRow = record row { state = HeldRun; initiator = None; code = Some code; place = Some (Within (step_now row) writes) } in
-      let sets : Named TableSet = committed (output_names row.job.root owned) lengths.items now.tables.sets in
-      changed-to (λ later. LeavesApart now job later.tables.sets → AreWrittenEntries later) now job row owned (λ row owned step. after_held row owned step code writes lengths.items now.tables) e found
-      (λ left.
+      let sets : Named TableSet = committed (output_names row.job.root owned) lengths now.tables.sets in
       written-moved layout now kept pointed ready written job row next leg sets now.library holder refl (record { job = refl; deck = refl; own_from = refl; selected = λ was. refl }) left
-      (committed-has Has (entries-through now) (output_names row.job.root owned) lengths.items now.tables.sets written.sets) (same-points row next refl)
+      (committed-has Has (entries-through now) (output_names row.job.root owned) lengths now.tables.sets written.sets) (same-points row next refl)
       (λ step its. same-step row next step refl (λ holds. (its.0, λ same. refl)))
       (λ holds inside other point there got.
       subst (λ one. HasGrown sets next one point.marks) (some-one owned other (own_step row) found there)
-      (let its : HasGrown sets row owned point.marks = behind-grown job row leg owned lengths.items holder within found are point got in record { since = its.since; effect = its.effect }))))))
-      (apart-held layout now kept job writes code lengths deck may)
+      (let grown : HasGrown sets row owned point.marks = behind-grown job row leg owned lengths holder its.at.within found its.at.are point got in record { since = grown.since; effect = grown.effect }))
 
   -- ---- a record is rewritten
 
@@ -161,91 +138,55 @@ module _ (layout : Layout) (now : Office) (kept : IsAgreed layout now) (pointed 
             (sym (kept-changed updated (table_rewritten owned.owner (step_now row)) behind effect.set effect.kept.id (λ table. refl)) ∙ there);
       }
 
-  pub written-rewritten : (job taken writes place : ℕ) (lengths : ArrayVec ℕ) (image : List ℕ) (deck : Option Job) → may_come layout now (Rewritten job taken writes lengths place image, deck) ≡ true → AreWrittenEntries (office_after (Rewritten job taken writes lengths place image, deck) now)
-  written-rewritten job taken writes place lengths image deck may =
-      tested-run now.tables job (λ row. is_running row && lengths_follow now.tables row lengths.items && of_step row (is_rewrite now.tables place image row)) (follows-of layout now (Rewritten job taken writes lengths place image) deck may)
-      (λ row e passes.
-      let early : (is_running row && lengths_follow now.tables row lengths.items) ≡ true = and-first (is_running row && lengths_follow now.tables row lengths.items) (of_step row (is_rewrite now.tables place image row)) passes in
-      let runs : is_running row ≡ true = and-first (is_running row) (lengths_follow now.tables row lengths.items) early in
-      led-by layout now job row kept e (on-holds row.state (and-first (is_in_state On row) (is_within (place_of row)) runs))
-      (λ leg holder.
-      step-by now.tables row lengths.items (and-second (is_running row) (lengths_follow now.tables row lengths.items) early)
-      (λ owned found are.
-      let within : is_within (place_of row) ≡ true = and-second (is_in_state On row) (is_within (place_of row)) runs in
+  pub written-rewritten : (job taken writes place : ℕ) (lengths image : List ℕ) (row : RunRow) (leg : Leg) (owned : OwnedStep) → IsRewriting now job row leg owned taken writes place lengths image → LeavesApart now job (after_rewritten row owned (step_now row) writes lengths now.tables).sets → AreWrittenEntries (record now { tables = after_rewritten row owned (step_now row) writes lengths now.tables })
+  written-rewritten job taken writes place lengths image row leg owned its left =
+      let holder = its.at.running.holder in
+      let found = its.at.running.found in
       let next : RunRow = record (row_rewritten (step_now row) row) { place = Some (Within (step_now row) writes) } in
-      let behind : Named TableSet = committed (output_names row.job.root owned) lengths.items now.tables.sets in
+      let behind : Named TableSet = committed (output_names row.job.root owned) lengths now.tables.sets in
       let updated : Name = name_with_role row.job.root owned is_updates in
       let sets : Named TableSet = with_changed updated (table_rewritten owned.owner (step_now row)) behind in
-      changed-to (λ later. LeavesApart now job later.tables.sets → AreWrittenEntries later) now job row owned (λ row owned step. after_rewritten row owned step writes lengths.items now.tables) e found
-      (λ left.
       written-moved layout now kept pointed ready written job row next leg sets now.library holder refl (record { job = refl; deck = refl; own_from = refl; selected = λ was. refl }) left
-      (rewritten-has Has (entries-through now) updated owned.owner (step_now row) behind (committed-has Has (entries-through now) (output_names row.job.root owned) lengths.items now.tables.sets written.sets))
+      (rewritten-has Has (entries-through now) updated owned.owner (step_now row) behind (committed-has Has (entries-through now) (output_names row.job.root owned) lengths now.tables.sets written.sets))
       (λ step point got. let as_it : HasPointAs next step point = rewritten-as row next (step_now row) step point refl got in (as_it.later, as_it.has))
       (λ step its. record { point = λ point got. rewritten-as row next (step_now row) step point refl got; entered = λ holds. (its.0, λ same. refl) })
       (λ holds inside other point there got.
       subst (λ one. HasGrown sets next one point.marks) (some-one owned other (own_step row) found there)
-      (rewritten-grown job writes lengths.items row leg owned point holder within found are got))))))
-      (apart-rewritten layout now kept job taken writes place lengths image deck may)
+      (rewritten-grown job writes lengths row leg owned point holder its.at.within found its.at.are got))
 
   -- ---- a checkpoint is taken
 
-  pub written-checkpointed : (job taken writes place bytes : ℕ) (id : Name) (lengths : ArrayVec ℕ) (deck : Option Job) → may_come layout now (Checkpointed job id taken writes lengths place bytes, deck) ≡ true → carries layout now (Checkpointed job id taken writes lengths place bytes) deck ≡ true → AreWrittenEntries (office_after (Checkpointed job id taken writes lengths place bytes, deck) now)
-  written-checkpointed job taken writes place bytes id lengths deck may carried =
-      tested-run now.tables job (λ row. is_running row && lengths_follow now.tables row lengths.items && of_step row (is_checkpoint now.tables id lengths.items place bytes row)) (follows-of layout now (Checkpointed job id taken writes lengths place bytes) deck may)
-      (λ row e passes.
-      let early : (is_running row && lengths_follow now.tables row lengths.items) ≡ true = and-first (is_running row && lengths_follow now.tables row lengths.items) (of_step row (is_checkpoint now.tables id lengths.items place bytes row)) passes in
-      let runs : is_running row ≡ true = and-first (is_running row) (lengths_follow now.tables row lengths.items) early in
-      led-by layout now job row kept e (on-holds row.state (and-first (is_in_state On row) (is_within (place_of row)) runs))
-      (λ leg holder.
-      step-by now.tables row lengths.items (and-second (is_running row) (lengths_follow now.tables row lengths.items) early)
-      (λ owned found are.
-      let within : is_within (place_of row) ≡ true = and-second (is_in_state On row) (is_within (place_of row)) runs in
-      let check : is_checkpoint now.tables id lengths.items place bytes row owned ≡ true = sym (ap (λ (o : Option OwnedStep). option_map_or (is_checkpoint now.tables id lengths.items place bytes row) o false) found) ∙ and-second (is_running row && lengths_follow now.tables row lengths.items) (of_step row (is_checkpoint now.tables id lengths.items place bytes row)) passes in
-      let running : IsRunning now job row leg owned (step_now row) (writes_in (place_of row)) = running-so layout now job row leg owned holder within found in
-      let both : (commits now.tables.sets row writes lengths.items (its_start leg owned (step_now row)) && carries_taken taken writes (its_start leg owned (step_now row))) ≡ true =
-      carried-of layout now job row leg owned (step_now row) (λ row start. commits now.tables.sets row writes lengths.items start && carries_taken taken writes start) kept holder refl found (and-second (nat_le 1 bytes) _ carried) in
-      let commit : commits now.tables.sets row writes lengths.items (its_start leg owned (step_now row)) ≡ true =
-      and-first (commits now.tables.sets row writes lengths.items (its_start leg owned (step_now row))) (carries_taken taken writes (its_start leg owned (step_now row))) both in
-      let told : carries_taken taken writes (its_start leg owned (step_now row)) ≡ true =
-      and-second (commits now.tables.sets row writes lengths.items (its_start leg owned (step_now row))) (carries_taken taken writes (its_start leg owned (step_now row))) both in
-      let some : 1 ≤ bytes = nat_le-true 1 bytes (and-first (nat_le 1 bytes) _ carried) in
-      let points = λ (point : StartPoint) (got : point_at row.points (step_now row) ≡ Some point). step-point layout now job row leg point kept pointed holder got in
-      let its_ready = ready.runs job row leg holder in
-      let grown = λ (inside : is_within (place_of row) ≡ true) (owned : OwnedStep) (point : StartPoint). written.grown job row leg owned point holder inside in
-      let next : RunRow = checked_row layout now job row leg owned writes taken place bytes id lengths.items kept running commit told are check its_ready in
-      let sets : Named TableSet = checked_sets layout now job row leg owned writes taken place bytes id lengths.items kept running commit told are check its_ready in
-      changed-to (λ later. LeavesApart now job later.tables.sets → AreWrittenEntries later) now job row owned (λ row owned step. after_checkpointed row owned step (record { id = id; run = job; place = place; bytes = bytes }) taken writes lengths.items now.tables) e found
-      (λ left.
-      written-moved layout now kept pointed ready written job row next leg sets now.library holder refl (record { job = refl; deck = refl; own_from = refl; selected = λ was. refl }) left
-      (checked-has layout now job row leg owned writes taken place bytes id lengths.items kept some running commit told are check points its_ready grown
-      (committed-has Has (entries-through now) (output_names row.job.root owned) lengths.items now.tables.sets written.sets)) (same-points row next refl)
+  pub written-checkpointed : (job taken writes place bytes : ℕ) (id : Name) (lengths : List ℕ) (row : RunRow) (leg : Leg) (owned : OwnedStep) → IsChecking now job row leg owned id taken writes place bytes lengths
+      → LeavesApart now job (after_checkpointed row owned (step_now row) (record { id = id; run = job; place = place; bytes = bytes }) taken writes lengths now.tables).sets
+      → AreWrittenEntries (record now { tables = after_checkpointed row owned (step_now row) (record { id = id; run = job; place = place; bytes = bytes }) taken writes lengths now.tables })
+  written-checkpointed job taken writes place bytes id lengths row leg owned its left =
+      let running = its.committing.at.running in
+      let commit = its.committing.commit in
+      let are = its.committing.at.are in
+      let points = λ (point : StartPoint) (got : point_at row.points (step_now row) ≡ Some point). step-point layout now job row leg point kept pointed running.holder got in
+      let its_ready = ready.runs job row leg running.holder in
+      let grown = λ (inside : is_within (place_of row) ≡ true) (owned : OwnedStep) (point : StartPoint). written.grown job row leg owned point running.holder inside in
+      let next : RunRow = checked_row layout now job row leg owned writes taken place bytes id lengths kept running commit its.told are its.check its_ready in
+      let sets : Named TableSet = checked_sets layout now job row leg owned writes taken place bytes id lengths kept running commit its.told are its.check its_ready in
+      written-moved layout now kept pointed ready written job row next leg sets now.library running.holder refl (record { job = refl; deck = refl; own_from = refl; selected = λ was. refl }) left
+      (checked-has layout now job row leg owned writes taken place bytes id lengths kept its.some running commit its.told are its.check points its_ready grown
+      (committed-has Has (entries-through now) (output_names row.job.root owned) lengths now.tables.sets written.sets)) (same-points row next refl)
       (λ step its. same-step row next step refl (λ holds. (its.0, λ same. refl)))
-      (λ holds. checked-grown layout now job row leg owned writes taken place bytes id lengths.items kept some running commit told are check points its_ready grown)))))
-      (apart-checkpointed layout now kept job taken writes place bytes id lengths deck may)
+      (λ holds. checked-grown layout now job row leg owned writes taken place bytes id lengths kept its.some running commit its.told are its.check points its_ready grown)
 
   -- ---- a step ends
 
-  pub written-step_end : (job step rc writes : ℕ) (lengths : ArrayVec ℕ) (deck : Option Job) → may_come layout now (StepEnded job step rc writes lengths, deck) ≡ true → carries layout now (StepEnded job step rc writes lengths) deck ≡ true → AreWrittenEntries (office_after (StepEnded job step rc writes lengths, deck) now)
-  written-step_end job step rc writes lengths deck may carried =
-      tested-run now.tables job (λ row. is_running row && step_in (place_of row) == step && lengths_follow now.tables row lengths.items) (follows-of layout now (StepEnded job step rc writes lengths) deck may)
-      (λ row e passes.
-      let runs : is_running row ≡ true = and-first (is_running row) (step_in (place_of row) == step) (and-first (is_running row && step_in (place_of row) == step) (lengths_follow now.tables row lengths.items) passes) in
-      led-by layout now job row kept e (on-holds row.state (and-first (is_in_state On row) (is_within (place_of row)) runs))
-      (λ leg holder.
-      step-by now.tables row lengths.items (and-second (is_running row && step_in (place_of row) == step) (lengths_follow now.tables row lengths.items) passes)
-      (λ owned found are.
-      let sets : Named TableSet = committed (output_names row.job.root owned) lengths.items now.tables.sets in
+  pub written-step_done : (job rc writes : ℕ) (lengths : List ℕ) (row : RunRow) (leg : Leg) (owned : OwnedStep) → IsHolder now job row leg → LeavesApart now job (after_step_ended row owned (step_now row) rc writes lengths now.tables).sets → AreWrittenEntries (record now { tables = after_step_ended row owned (step_now row) rc writes lengths now.tables })
+  written-step_done job rc writes lengths row leg owned holder left =
+      let sets : Named TableSet = committed (output_names row.job.root owned) lengths now.tables.sets in
       let mid : RunRow = record row { place = Some (Within (step_now row) writes) } in
       let done : TablesModel = with_run mid (record now.tables { sets = sets }) in
       let disposed = after_dispositions row owned (step_now row) false done in
       let next : RunRow = record row { place = Some (Before (suc (step_now row))); rcs = row.rcs ++ (step_now row, rc) ∷ []; in_effect = None; passed = disposed.passed } in
-      changed-to (λ later. LeavesApart now job later.tables.sets → AreWrittenEntries later) now job row owned (λ row owned step. after_step_ended row owned step rc writes lengths.items now.tables) e found
-      (λ left.
       written-on layout now kept pointed ready written job row mid next leg done disposed.sets now.library holder
-      (run-same (record now.tables { sets = sets }) mid row job e (kept.numbered job row e)) refl
-      (λ number differs. run-other (record now.tables { sets = sets }) mid number (λ same. differs (same ∙ kept.numbered job row e))) left
+      (run-same (record now.tables { sets = sets }) mid row job holder.row_at (kept.numbered job row holder.row_at)) refl
+      (λ number differs. run-other (record now.tables { sets = sets }) mid number (λ same. differs (same ∙ kept.numbered job row holder.row_at))) left
       (disposed_all-has Has (entries-through now) (run_disposals row owned (own_made row owned (step_now row)) (earlier_made done row (step_now row)) false) (standing_of row done)
-      (committed-has Has (entries-through now) (output_names row.job.root owned) lengths.items now.tables.sets written.sets)) (record { job = refl; deck = refl; own_from = refl; selected = λ was. refl }) (same-points row next refl)
+      (committed-has Has (entries-through now) (output_names row.job.root owned) lengths now.tables.sets written.sets)) (record { job = refl; deck = refl; own_from = refl; selected = λ was. refl }) (same-points row next refl)
       (λ number its. same-step row next number refl (λ holds. let under : number ≤ step_now row = its.0 in (omega (arith, under), λ same. absurd (omega (arith, under, same)))))
-      (λ holds inside. absurd (false≢true inside))))))
-      (apart-step_end layout now kept job step rc writes lengths deck may carried)
+      (λ holds inside. absurd (false≢true inside))
