@@ -9,8 +9,8 @@ use Rattle.ckr_library.proofs.Named.{name-same}
 use Rattle.ckr_library.specs.NameMaps.{Name, Named, entry_at, same_name}
 use Rattle.ckr_points.specs.Restart.{kept_at}
 use Rattle.ckr_points.specs.Rows.{EffectPoint, KeptEntry, TableSet, TablesModel}
-use Rattle.ckr_points_tables.specs.declared.run_table.InEffect.{InEffect}
-use Rattle.ckr_points_tables.specs.declared.run_table.RunTable.{RunTable}
+use Rattle.ckr_points_tables.specs.Model.InEffect.{InEffect}
+use Rattle.ckr_points_tables.specs.Model.RunTable.{RunTable}
 use Rattle.ckr_points_tables.specs.View.{effect_of}
 use Rattle.ckr_desk_turn.specs.Jobs.{effect_entry}
 use Rattle.ckr_desk_memory.specs.Plans.{row_for, told_entry}

@@ -31,7 +31,7 @@ use Rattle.ckr_points.specs.Restart.{kept_at}
 use Rattle.ckr_points.specs.Tables.{committed}
 use Rattle.ckr_points_library.specs.Commit.{output_names}
 use Rattle.ckr_points_library.specs.Holdings.{owned}
-use Rattle.ckr_points_tables.specs.declared.run_table.RunTable.{RunTable}
+use Rattle.ckr_points_tables.specs.Model.RunTable.{RunTable}
 use Rattle.ckr_points_tables.specs.Checkpoint.{checkpoint_name}
 use Rattle.ckr_points_tables.specs.RunJobs.{IsFitting, effective, is_fitting_step, names_in, own_of}
 use Rattle.ckr_points_tables.specs.RunMarks.{mark_by}

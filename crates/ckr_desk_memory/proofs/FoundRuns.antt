@@ -14,7 +14,7 @@ use Rattle.ckr_points.specs.declared.run.RunState.TheVariants.{On}
 use Rattle.ckr_points.specs.Payload.{lengths_kept, writes_in}
 use Rattle.ckr_points.specs.Restart.{place_of, step_in}
 use Rattle.ckr_points.specs.Rows.{RunRow, TableSet, TablesModel, run_of, step_of_run, holding_of}
-use Rattle.ckr_points_tables.specs.declared.run_table.RunTable.{RunTable}
+use Rattle.ckr_points_tables.specs.Model.RunTable.{RunTable}
 use Rattle.ckr_points_tables.specs.RunRows.{IsRunRow}
 use Rattle.ckr_points_tables.specs.RunJobs.{IsFitting, effective}
 use Rattle.ckr_points_tables.specs.View.{RunTableView, facts_in, facts_of, job_in, row_with, seen_by}

@@ -35,7 +35,7 @@ use Rattle.ckr_queue.specs.Queue.{selection_of}
 use Rattle.ckr_steps.specs.Units.{due_of}
 use Rattle.ckr_desk_turn.specs.DeckLimits.{FitsAllocation}
 use Rattle.ckr_desk_turn.proofs.Decks.AllocationNeeds.{all_fit}
-use Rattle.ckr_points_tables.specs.declared.run_table.RunTable.{RunTable}
+use Rattle.ckr_points_tables.specs.Model.RunTable.{RunTable}
 use Rattle.ckr_points_tables.specs.Allocation.{IsAllocation, MayAllocate, allocation_in}
 use Rattle.ckr_points_tables.specs.View.{run_on, seen_by}
 use Rattle.ckr_desk_turn.specs.declared.plan.Plan.{Plan}

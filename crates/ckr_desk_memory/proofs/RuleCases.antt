@@ -11,7 +11,7 @@ use Rattle.ckr_points.specs.Restart.{place_of, step_in}
 use Rattle.ckr_points.specs.Rows.{EffectPoint, RunRow, StartPoint}
 use Rattle.ckr_rules.specs.RuleTables.{is_rnc}
 use Rattle.ckr_rules.specs.declared.cases.AutoCase.{AutoCase}
-use Rattle.ckr_points_tables.specs.declared.run_table.StepPoint.{StepPoint}
+use Rattle.ckr_points_tables.specs.Model.StepPoint.{StepPoint}
 use Rattle.ckr_points_tables.specs.View.{point_of}
 use Rattle.ckr_points_tables.proofs.Steps.{found-mapped}
 

@@ -16,7 +16,7 @@ use Rattle.ckr_points_library.specs.declared.cause.Cause.{Cause}
 use Rattle.ckr_points_tables.proofs.RunJobs.{fits-at}
 use Rattle.ckr_points_tables.specs.RunJobs.{IsFittingStep, effective, own_of}
 use Rattle.ckr_points_tables.specs.View.{seen_by}
-use Rattle.ckr_points_tables.specs.declared.run_table.RunTable.{RunTable}
+use Rattle.ckr_points_tables.specs.Model.RunTable.{RunTable}
 use Rattle.ckr_desk_memory.specs.declared.mounts.WantingStep.{WantingStep}
 use Rattle.ckr_desk_memory.specs.Mounts.{IsWantingIn, IsWantingStep, dd_from}
 use Rattle.ckr_desk_memory.specs.Plans.{HasDd, IsKnown}

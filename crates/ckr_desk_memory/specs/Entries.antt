@@ -14,7 +14,7 @@ use Rattle.ckr_points.specs.Restart.{kept_at, place_of, step_in}
 use Rattle.ckr_points.specs.Rows.{RunRow, TableSet, TablesModel, holding_of}
 use Rattle.ckr_points.specs.Tables.{committed, entry_point}
 use Rattle.ckr_points_tables.specs.Checkpoint.{checkpoint_name}
-use Rattle.ckr_points_tables.specs.declared.run_table.RunTable.{RunTable}
+use Rattle.ckr_points_tables.specs.Model.RunTable.{RunTable}
 use Rattle.ckr_points_tables.specs.View.{facts_of, row_with, seen_by}
 use Rattle.ckr_steps.specs.Units.{taken_of}
 use Rattle.ckr_desk_turn.specs.Checkpoints.{entry_with, id_by, is_in_range, step_entries}

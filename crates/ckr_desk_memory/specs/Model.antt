@@ -7,4 +7,4 @@ pub use Rattle.ckr_points_tables.specs.Invariant
 pub use Rattle.ckr_points_tables.specs.RunJobs
 pub use Rattle.ckr_points_tables.specs.RunRows
 pub use Rattle.ckr_points_tables.specs.View
-pub use Rattle.ckr_points_tables.specs.declared.run_table.RunTable
+pub use Rattle.ckr_points_tables.specs.Model.RunTable

@@ -20,7 +20,7 @@ use Rattle.ckr_steps.specs.declared.unit_ahead.UnitAhead.{UnitAhead}
 use Rattle.ckr_steps.specs.StepUnit.{AreCounted, behind_ahead}
 use Rattle.ckr_steps.specs.Units.{due_of}
 use Rattle.ckr_steps.specs.Writes.{grown}
-use Rattle.ckr_points_tables.specs.declared.run_table.RunTable.{RunTable}
+use Rattle.ckr_points_tables.specs.Model.RunTable.{RunTable}
 use Rattle.ckr_points_tables.specs.RunJobs.{IsFitting, effective}
 use Rattle.ckr_points_tables.specs.View.{facts_in, facts_of, row_with}
 use Rattle.ckr_desk_turn.specs.declared.inquiry.Inquiry.{Inquiry}

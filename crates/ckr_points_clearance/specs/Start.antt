@@ -7,7 +7,7 @@ use Rattle.ckr_meaning.specs.Dispositions.{Stock}
 use Rattle.ckr_meaning.specs.EffectiveJob.{OwnedStep, flaws_in, placed_in}
 use Rattle.ckr_points.specs.Follows.{are_items, is_empty}
 use Rattle.ckr_points.specs.Rows.{TableSet, TablesModel, table_ways}
-use Rattle.ckr_points_tables.specs.declared.run_table.RunTable.{RunTable}
+use Rattle.ckr_points_tables.specs.Model.RunTable.{RunTable}
 use Rattle.ckr_volumes.specs.declared.layout.Layout.{Layout}
 
 -- what stands before a step of the run

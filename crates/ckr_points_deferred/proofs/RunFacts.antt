@@ -11,7 +11,7 @@ use Rattle.ckr_base.proofs.Numbers.{suc-minus}
 use Rattle.ckr_base.proofs.Options.{some-not-none}
 use Rattle.ckr_points.specs.declared.run.Run.{Run}
 use Rattle.ckr_points.specs.Rows.{RunRow, TablesModel, run_of}
-use Rattle.ckr_points_tables.specs.declared.run_table.RunTable.{RunTable}
+use Rattle.ckr_points_tables.specs.Model.RunTable.{RunTable}
 use Rattle.ckr_points_tables.specs.RunRows.{IsRunRow}
 use Rattle.ckr_points_tables.specs.View.{facts_in, facts_of, line_of, row_of, row_with}
 use Rattle.ckr_points_deferred.specs.Runs.{IsRunNow, row_now}

@@ -10,19 +10,20 @@ use Rattle.ckr_jcl.specs.declared.deck.Job.{Job}
 use Rattle.ckr_library.specs.Catalog.{Holding}
 use Rattle.ckr_base.specs.RoomyLists.{Roomy}
 use Rattle.ckr_library.specs.NameMaps.{Named, are_named_in_order}
-use Rattle.ckr_points_tables.specs.declared.run_table.WrittenEntry.{WrittenEntry}
+use Rattle.ckr_points_runs.specs.declared.run_table.WrittenEntry.{WrittenEntry}
 use Rattle.ckr_points.specs.declared.run.Run.{Run}
-use Rattle.ckr_points_tables.specs.declared.run_table.RunTable.{RunTable}
+use Rattle.ckr_points_runs.specs.declared.run_table.RunTable.{RunTable}
 use Rattle.ckr_points_tables.specs.declared.tables.Tables.TheInside.{Inside}
-use Rattle.ckr_points_tables.specs.RunChange.{HasFlagsFor, going, changed, earlier_for, holding_kit, written_after}
-use Rattle.ckr_points_tables.specs.MadeNames.{points_in}
+use Rattle.ckr_points_runs.specs.RunChange.{HasFlagsFor, going, changed, earlier_for, holding_kit, written_after}
+use Rattle.ckr_points_runs.specs.MadeNames.{points_in}
 use Rattle.ckr_points_tables.specs.Parts.{tables_seen, IsKept}
 use Rattle.ckr_points_tables.specs.Invariant.{AreKept, HasRoom, MayCount, MayFollow, is_run_change, put_at}
-use Rattle.ckr_points_tables.specs.Needs.{MayChange}
+use Rattle.ckr_points_runs.specs.Needs.{MayChange}
 use Rattle.ckr_points.specs.Restart.{after_event}
 use Rattle.ckr_points.specs.Rows.{TablesModel}
-use Rattle.ckr_points_tables.specs.RunJobs.{IsFitting, effective}
-use Rattle.ckr_points_tables.specs.View.{RoomyTables, facts_of, rows_of, seen_under, table_in, written_of}
+use Rattle.ckr_points_runs.specs.RunJobs.{IsFitting, effective}
+use Rattle.ckr_points_tables.specs.View.{RoomyTables, rows_of, seen_under, table_in}
+use Rattle.ckr_points_runs.specs.View.{facts_of, written_of}
 use Rattle.ckr_points_tables.proofs.Events.{placed_at, run_fits, may_change, desk_after, kept_after}
 use Rattle.ckr_points_tables.proofs.MadeNames.{has-flags}
 use Rattle.ckr_points_tables.proofs.Runs.{length-rows, runs-at}

@@ -1,8 +1,8 @@
 -- What runs have written, and the data sets as they are seen, behind a checkpoint.
-use Rattle.std.proofs.Common.{◌≡◌, ℕ, zero, suc, ◌&&◌, ◌==◌, Bool, true, false, not, cond, if◌then◌else◌, nat_eq, IsSome, List, [], ◌∷◌, ◌++◌, map, find, slice_get, slice_set, refl, ap, sym, ◌∙◌, subst, Option, Some, None, T}
+use Rattle.std.proofs.Common.{◌≡◌, ℕ, zero, suc, ◌&&◌, ◌==◌, Bool, true, false, not, cond, if◌then◌else◌, nat_eq, List, [], ◌∷◌, ◌++◌, map, find, slice_get, slice_set, refl, ap, sym, ◌∙◌, subst, Option, Some, None, T}
 use Rattle.std.specs.declared.cmp.Ordering.{Ordering}
 use Rattle.std.specs.declared.cmp.Ordering.TheVariants.{Less, Equal, Greater}
-use Rattle.std.specs.Option.{is_none, option_and_then, option_map_or}
+use Rattle.std.specs.Option.{is_none, option_map_or}
 use Rattle.std.specs.List.{list_all}
 use Rattle.std.specs.Ordering.{is_eq}
 use Rattle.std.specs.Cmp.Lexicographic.{nat_list_cmp_total}
@@ -12,57 +12,20 @@ use Rattle.ckr_base.specs.RoomyLists.{Roomy}
 use Rattle.ckr_base.proofs.Bools.{T-and-first, T-and-second, and-first, and-second}
 use Rattle.ckr_base.proofs.Numbers.{nat_eq-false, nat_eq-true}
 use Rattle.ckr_base.proofs.Sequences.{get-set-same}
-use Rattle.ckr_jcl.specs.declared.deck.Dd.{Dd}
 use Rattle.ckr_library.specs.declared.sets.Kept.{Kept}
 use Rattle.ckr_library.specs.Catalog.{Holding, with_kept}
 use Rattle.ckr_library.specs.NameMaps.{Name, Named, entry_at, name_cmp, same_name}
-use Rattle.ckr_library.proofs.Named.{name-same, name-turned}
+use Rattle.ckr_library.proofs.Named.{name-turned}
 use Rattle.ckr_library.proofs.OrderedLists.{find-tied}
-use Rattle.ckr_meaning.specs.EffectiveJob.{OwnedStep, name_of}
-use Rattle.ckr_points.specs.Follows.{is_length_of}
 use Rattle.ckr_points.specs.Rows.{KeptEntry}
-use Rattle.ckr_points.specs.Tables.{is_checkpoints, kept_entry, name_with_role, with_kept_entry}
-use Rattle.ckr_points_library.specs.Commit.{is_named, output_names}
-use Rattle.ckr_points_tables.specs.Checkpoint.{checkpoint_dd, checkpoint_name}
-use Rattle.ckr_points_tables.specs.declared.run_table.WrittenEntry.{WrittenEntry}
-use Rattle.ckr_points_tables.specs.View.{Writing, Writings, find_last, is_entry, later_or, no_point, point_for, table_in, writing_of, written_by, written_of}
+use Rattle.ckr_points.specs.Tables.{kept_entry, with_kept_entry}
+use Rattle.ckr_points_runs.specs.declared.run_table.WrittenEntry.{WrittenEntry}
+use Rattle.ckr_points_runs.specs.View.{Writing, writing_of, written_of}
+use Rattle.ckr_points_tables.specs.View.{Writings, find_last, is_entry, later_or, no_point, point_for, table_in, written_by}
+pub use Rattle.ckr_points_runs.proofs.CheckpointNames.{checkpoint-named, role-named}
 use Rattle.ckr_points_tables.proofs.NamedViews.{viewed, viewed-same}
 use Rattle.ckr_points_tables.proofs.Runs.{get-other}
 use Rattle.ckr_points_tables.proofs.SetViews.{find_last-behind}
-
--- ---- the name of the checkpoint data set
-
-role-name : (run : ℕ) (own : OwnedStep) → option_map_or (λ name. name) (checkpoint_name run own) [] ≡ name_with_role run own is_checkpoints
-role-name run own = by (checkpoint_dd own.step)
-  where
-    by : (found : Option Dd) → option_map_or (λ name. name) (option_and_then (name_of run own) found) [] ≡ option_map_or (λ dd. option_map_or (λ name. name) (name_of run own dd) []) found []
-    by None = refl
-    by (Some dd) = refl
-
-pub role-named : (run : ℕ) (own : OwnedStep) (name : Name) → checkpoint_name run own ≡ Some name → name_with_role run own is_checkpoints ≡ name
-role-named run own name is = sym (role-name run own) ∙ ap (λ found. option_map_or (λ one. one) found []) is
-
-length-named : (name : Name) (most : ℕ) (names : List Name) (lengths : List ℕ) → is_length_of name most names lengths ≡ true → list_all is_named names ≡ true → is_named name ≡ true
-length-named name most [] lengths e named = absurd (false≢true e)
-length-named name most (first ∷ names) [] e named = absurd (false≢true e)
-length-named name most (first ∷ names) (now ∷ lengths) e named =
-    by (same_name first name) refl e (λ later. length-named name most names lengths later (and-second (is_named first) _ named))
-  where
-    by : (same : Bool) → same_name first name ≡ same → cond same (now == most) (is_length_of name most names lengths) ≡ true → (is_length_of name most names lengths ≡ true → is_named name ≡ true) → is_named name ≡ true
-    by true same e later = ap is_named (sym (name-same first name same)) ∙ and-first (is_named first) _ named
-    by false same e later = later e
-
--- a checkpoint data set that is among the outputs has a name
-pub checkpoint-named : (run : ℕ) (own : OwnedStep) (most : ℕ) (lengths : List ℕ) → is_length_of (name_with_role run own is_checkpoints) most (output_names run own) lengths ≡ true → list_all is_named (output_names run own) ≡ true → IsSome (checkpoint_name run own)
-checkpoint-named run own most lengths e named = by (checkpoint_name run own) refl
-  where
-    by : (found : Option Name) → checkpoint_name run own ≡ found → IsSome found
-    by None is =
-        absurd (false≢true (
-        ap is_named (sym (ap (λ one. option_map_or (λ name. name) one []) is) ∙ role-name run own)
-        ∙ length-named (name_with_role run own is_checkpoints) most (output_names run own) lengths e named
-        ))
-    by (Some name) is = refl
 
 -- ---- one more writing of a run
 

@@ -11,15 +11,16 @@ use Rattle.ckr_points.specs.Marks.{deck_names, lost_names, point_at}
 use Rattle.ckr_points.specs.Restart.{Back, after_continued, after_continued_at, after_entry_continued, after_taken_over, carried_point, rcs_before, row_on, spliced, syschk_name}
 use Rattle.ckr_points.specs.Marks.{mark_now}
 use Rattle.ckr_points.specs.Rows.{KeptEntry, RunRow, StartPoint, TableSet, TablesModel, with_run}
-use Rattle.ckr_points_tables.specs.RunChange.{Going, desk_with, going}
+use Rattle.ckr_points_runs.specs.RunChange.{Going, desk_with, going}
 use Rattle.ckr_points_tables.specs.Restart.{line_on}
-use Rattle.ckr_points_tables.specs.RunJobs.{JobView, continued_view, effective}
-use Rattle.ckr_points_tables.specs.RunMarks.{own_names_of}
+use Rattle.ckr_points_runs.specs.RunJobs.{JobView, continued_view, effective}
+use Rattle.ckr_points_runs.specs.RunMarks.{own_names_of}
 use Rattle.ckr_points_tables.specs.Selection.{Resumption, continued_facts, entries_in, resumed, resumed_at_entry, resumed_at_start, resumed_run, sets_resumed}
-use Rattle.ckr_points_tables.specs.View.{RunTableView, Writings, row_with, seen_by, table_in, table_of}
+use Rattle.ckr_points_runs.specs.View.{RunTableView, row_with, seen_by, table_of}
+use Rattle.ckr_points_tables.specs.View.{Writings, table_in}
 use Rattle.ckr_points_tables.proofs.NamedViews.{viewed}
 use Rattle.ckr_points_tables.proofs.Restarts.Views.{kept-seen}
-use Rattle.ckr_points_tables.proofs.RunJobs.{spliced-is}
+use Rattle.ckr_points_runs.proofs.RunJobs.{spliced-is}
 use Rattle.ckr_points_tables.proofs.Selections.{carried-seen, lost-seen, needed_in, removed_in, resumed-seen}
 use Rattle.ckr_points_tables.proofs.SetViews.{going_viewed}
 

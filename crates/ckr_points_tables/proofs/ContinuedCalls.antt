@@ -21,24 +21,28 @@ use Rattle.ckr_points.specs.Marks.{mark_now, point_at}
 use Rattle.ckr_points.specs.Restart.{after_chosen, after_continued, after_continued_at, after_entry_continued, after_event, continued_row, kept_at, rcs_before, syschk_name}
 use Rattle.ckr_points.specs.Syschk.{names_its_set}
 use Rattle.ckr_points.specs.Rows.{KeptEntry, RunRow, StartPoint, TablesModel, run_of}
-use Rattle.ckr_points_tables.specs.declared.run_table.RunTable.{RunTable}
+use Rattle.ckr_points_runs.specs.declared.run_table.RunTable.{RunTable}
 use Rattle.ckr_points_tables.specs.declared.tables.Tables.TheInside.{Inside}
-use Rattle.ckr_points_tables.specs.Invariant.{AreKept, CanContinue, HasNext, HasRoom, HasSelectionRoom, IsFilled, IsIndexOf, IsRun, IsWide, MayContinue, MayFollow, initiator_at, put_at, room_at}
+use Rattle.ckr_points_tables.specs.Invariant.{AreKept, CanContinue, HasNext, HasRoom, HasSelectionRoom, IsIndexOf, IsRun, IsWide, MayContinue, MayFollow, initiator_at, put_at, room_at}
+use Rattle.ckr_points_runs.specs.PutBack.{IsFilled}
 use Rattle.ckr_points_tables.specs.Parts.{tables_seen, IsKept}
-use Rattle.ckr_points_tables.specs.PutBack.{cut_back}
+use Rattle.ckr_points_runs.specs.PutBack.{cut_back}
 use Rattle.ckr_points_tables.specs.Restart.{line_on}
-use Rattle.ckr_points_tables.specs.Rewrite.{has_master}
+use Rattle.ckr_points_runs.specs.Rewrite.{has_master}
 use Rattle.ckr_uses.specs.Uses.{are_distinct}
-use Rattle.ckr_points_tables.specs.RunChange.{Going, desk_with, going}
-use Rattle.ckr_points_tables.specs.RunJobs.{IsFitting, JobView, continued_view, effective}
+use Rattle.ckr_points_runs.specs.RunChange.{Going, desk_with, going}
+use Rattle.ckr_points_runs.specs.RunJobs.{IsFitting, JobView, continued_view, effective}
 use Rattle.ckr_points_tables.specs.Selection.{Entries, HasLostRoom, IsResumed, Resumption, begun_facts, continued_facts, entries_in, lost_by, prepared, prepared_for, prepared_of, resumed, resumed_at_entry, resumed_run}
-use Rattle.ckr_points_tables.specs.View.{NextRun, is_within_limits, RoomyTables, RunTableView, Writings, facts_of, next_of, room_of, row_of, row_with, rows_of, seen_by, seen_under, table_in, table_of, written_of}
+use Rattle.ckr_points_tables.specs.View.{NextRun, RoomyTables, Writings, next_of, room_of, row_of, rows_of, seen_under, table_in}
+use Rattle.ckr_points_runs.specs.RunJobs.{is_within_limits}
+use Rattle.ckr_points_runs.specs.View.{RunTableView, facts_of, row_with, seen_by, table_of, written_of}
 use Rattle.ckr_points_tables.proofs.Continuations.{continued-in}
 use Rattle.ckr_points_tables.proofs.ContinuedRuns.{continued-distinct, continued-fits, continued-masters, continued-taken}
 use Rattle.ckr_points_tables.proofs.Events.{none_on}
-use Rattle.ckr_points_tables.proofs.PutBack.{cut-back-filled, cut-back-wide}
+use Rattle.ckr_points_runs.proofs.PutBack.{cut-back-filled}
+use Rattle.ckr_points_tables.proofs.PutBack.{cut-back-wide}
 use Rattle.ckr_points_tables.proofs.RunChanges.{run-in}
-use Rattle.ckr_points_tables.proofs.RunJobs.{continued-step}
+use Rattle.ckr_points_runs.proofs.RunJobs.{continued-step}
 use Rattle.ckr_points_tables.proofs.RunMoves.{IsPlaced, desk_replaced, is_run, kept_replaced, number_is, of_run-row, placed_so, run_fits, run_found}
 use Rattle.ckr_points_tables.proofs.Runs.{length-rows, rows-at}
 use Rattle.ckr_points_tables.proofs.Initiators.{index_changed}

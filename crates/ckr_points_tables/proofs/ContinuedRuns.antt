@@ -12,8 +12,8 @@ use Rattle.ckr_jcl.specs.declared.deck.Job.{Job}
 use Rattle.ckr_jcl.specs.declared.deck.Step.{Step}
 use Rattle.ckr_meaning.specs.EffectiveJob.{HasDistinctNames, OwnedStep, names_of, owned_by, step_at}
 use Rattle.ckr_uses.specs.Uses.{are_distinct}
-use Rattle.ckr_points_tables.specs.Rewrite.{has_master}
-use Rattle.ckr_points_tables.specs.RunJobs.{IsFitting, JobView, continued_view, effective, has_few_dds, is_fitting_step, is_within_limits}
+use Rattle.ckr_points_runs.specs.Rewrite.{has_master}
+use Rattle.ckr_points_runs.specs.RunJobs.{IsFitting, JobView, continued_view, effective, has_few_dds, is_fitting_step, is_within_limits}
 
 -- ---- of some of the items
 

@@ -29,10 +29,10 @@ use Rattle.ckr_meaning.specs.declared.place.Place.TheVariants.{Before, Opened, W
 use Rattle.ckr_points.specs.Tables.{is_checkpoints, is_updates, name_with_role, parts_from}
 use Rattle.ckr_points.specs.Restart.{step_in}
 use Rattle.ckr_points.specs.Marks.{without_passed}
-use Rattle.ckr_points_tables.specs.RunChange.{Going, by_step_of, changed, checkpointed, kept_by, coded, committed_by, disposed, ended_at, ended_by, ended_in, holding_kit, opened_by as opened_in_kit, place_now, restamped, rewritten, started, step_ended, step_of, within}
-use Rattle.ckr_points_tables.specs.StepEnd.{AreLengthsOf, HasLengths, disposals_at}
-use Rattle.ckr_points_tables.specs.NewSets.{MayMakeAll, MayMakeNamed, has_items, made_from, made_named}
-use Rattle.ckr_points_tables.specs.Start.{MayStartIn}
+use Rattle.ckr_points_runs.specs.RunChange.{Going, by_step_of, changed, checkpointed, kept_by, coded, committed_by, disposed, ended_at, ended_by, ended_in, holding_kit, opened_by as opened_in_kit, place_now, restamped, rewritten, started, step_ended, step_of, within}
+use Rattle.ckr_points_runs.specs.StepEnd.{AreLengthsOf, HasLengths, disposals_at}
+use Rattle.ckr_points_runs.specs.NewSets.{MayMakeAll, MayMakeNamed, has_items, made_from, made_named}
+use Rattle.ckr_points_runs.specs.Start.{MayStartIn}
 use Rattle.ckr_points_library.specs.Allocation.{fresh_set}
 
 -- each change of a data set keeps it

@@ -29,36 +29,40 @@ use Rattle.ckr_library.specs.Catalog.{Catalog, Holding, records_of}
 use Rattle.ckr_library.specs.NameMaps.{EachEntry, Name, Named, are_named_in_order, entry_at, same_name}
 use Rattle.ckr_library.proofs.Named.{each-at, name-itself}
 use Rattle.ckr_points_tables.proofs.NamedViews.{at-viewed}
-use Rattle.ckr_points_tables.proofs.Checkpoints.{IsUnkept, keeps-new, role-named, still-seen, unkept}
+use Rattle.ckr_points_tables.proofs.Checkpoints.{IsUnkept, keeps-new, still-seen, unkept}
+use Rattle.ckr_points_runs.proofs.CheckpointNames.{role-named}
 use Rattle.ckr_meaning.specs.EffectiveJob.{HasDistinctNames, OwnedStep, name_of, names_of, step_at}
 use Rattle.ckr_volumes.specs.declared.layout.Layout.{Layout}
 use Rattle.ckr_points.specs.declared.run.Run.{Run}
 use Rattle.ckr_points.specs.declared.run.RunState.TheVariants.{Queued}
-use Rattle.ckr_points_tables.specs.declared.run_table.RunTable.{RunTable}
-use Rattle.ckr_points_tables.specs.declared.tables.Spare.{Spare}
-use Rattle.ckr_points_tables.specs.RunChange.{Going, going, changed, check_writing, committed_by, desk_with, earlier_for, holding_kit, kept_by, place_now, table_kit, written_after}
-use Rattle.ckr_points_tables.specs.MadeNames.{points_in}
-use Rattle.ckr_points_tables.specs.StepEnd.{HasLengths, MayRewriteIn}
+use Rattle.ckr_points_runs.specs.declared.run_table.RunTable.{RunTable}
+use Rattle.ckr_points_runs.specs.declared.spare.Spare.{Spare}
+use Rattle.ckr_points_runs.specs.RunChange.{Going, going, changed, check_writing, committed_by, desk_with, earlier_for, holding_kit, kept_by, place_now, table_kit, written_after}
+use Rattle.ckr_points_runs.specs.MadeNames.{points_in}
+use Rattle.ckr_points_runs.specs.StepEnd.{HasLengths, MayRewriteIn}
 use Rattle.ckr_points.specs.Follows.{ended_follows, follows, is_checkpoint, is_length_of, is_rewrite, is_update, of_step, may_hold, may_restart, is_free, is_in_state, is_running, lengths_follow, of_run, selected_follows, started_follows}
-use Rattle.ckr_points_tables.specs.Invariant.{AreKept, HasKeptRoom, HasRoom, HasRoomIn, HasRoomUnder, IsFilled, IsRun, IsWide, MayCount, MayFollow, initiator_at, is_run_change, entries_at, put_at, room_at}
-use Rattle.ckr_points_tables.specs.Checkpoint.{HasRoomNow, MayKeep, checkpoint_name}
-use Rattle.ckr_points_tables.specs.declared.run_table.WrittenEntry.{WrittenEntry}
-use Rattle.ckr_points_tables.specs.Needs.{MayChange}
+use Rattle.ckr_points_tables.specs.Invariant.{AreKept, HasKeptRoom, HasRoom, HasRoomIn, HasRoomUnder, IsRun, IsWide, MayCount, MayFollow, initiator_at, is_run_change, entries_at, put_at, room_at}
+use Rattle.ckr_points_runs.specs.PutBack.{IsFilled}
+use Rattle.ckr_points_runs.specs.Checkpoint.{HasRoomNow, MayKeep, checkpoint_name}
+use Rattle.ckr_points_runs.specs.declared.run_table.WrittenEntry.{WrittenEntry}
+use Rattle.ckr_points_runs.specs.Needs.{MayChange}
 use Rattle.ckr_points.specs.Restart.{after_event, kept_at, place_of, step_in}
-use Rattle.ckr_points_tables.specs.Rewrite.{HasFewRewrites, MayRestamp, has_master, has_set, master_dd, master_name}
+use Rattle.ckr_points_runs.specs.Rewrite.{HasFewRewrites, MayRestamp, has_master, has_set, master_dd, master_name}
 use Rattle.ckr_points.specs.Rows.{RunRow, TableSet, TablesModel, run_of, with_row}
 use Rattle.ckr_points.specs.Tables.{is_checkpoints, name_with_role}
 use Rattle.ckr_points_library.specs.Commit.{output_names}
-use Rattle.ckr_points_tables.specs.RunJobs.{IsFitting, effective}
-use Rattle.ckr_points_tables.proofs.RunJobs.{step-all}
-use Rattle.ckr_points_tables.specs.View.{RoomyTables, TablesRoom, RunTableView, Writings, facts_of, has_few_dds, room_of, row_of, row_with, rows_of, seen_under, table_in, written_of, next_of}
+use Rattle.ckr_points_runs.specs.RunJobs.{IsFitting, effective}
+use Rattle.ckr_points_runs.proofs.RunJobs.{step-all}
+use Rattle.ckr_points_tables.specs.View.{RoomyTables, TablesRoom, Writings, room_of, row_of, rows_of, seen_under, table_in, next_of}
+use Rattle.ckr_points_runs.specs.View.{RunTableView, facts_of, row_with, written_of}
+use Rattle.ckr_points_runs.specs.RunJobs.{has_few_dds}
 use Rattle.ckr_points_tables.proofs.RunChanges.{MakesSameBy, event_in}
 use Rattle.ckr_points_tables.proofs.Follows.{lengths_fit, started-makes}
 use Rattle.ckr_points_tables.proofs.Initiators.{index_changed}
 use Rattle.ckr_points_tables.proofs.MadeNames.{earlier-same, points-seen, row_points}
 use Rattle.ckr_points_tables.proofs.Runs.{at_false, facts-rows, length-rows, rows-at, rows-set, run-stays, runs-at, runs-set}
 use Rattle.ckr_points_tables.proofs.RunIdentity.{IsSelecting, Stays, stays}
-use Rattle.ckr_points_tables.proofs.Steps.{few_of}
+use Rattle.ckr_points_runs.proofs.Steps.{few_of}
 use Rattle.ckr_points_tables.proofs.EachSet.{MayMakeBy}
 use Rattle.ckr_points_tables.proofs.RecordWidths.{changed-filled, changed-wide}
 use Rattle.ckr_points_tables.proofs.SetViews.{Keeps, KeepsIn, changed_seen, going_viewed, table_view}

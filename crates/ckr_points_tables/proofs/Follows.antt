@@ -22,18 +22,20 @@ use Rattle.ckr_meaning.specs.EffectiveJob.{OwnedStep, flaws_in, name_of, names_o
 use Rattle.ckr_volumes.specs.declared.layout.Layout.{Layout}
 use Rattle.ckr_points.specs.declared.run.Run.{Run}
 use Rattle.ckr_points.specs.declared.run.RunState.TheVariants.{On}
-use Rattle.ckr_points_tables.specs.RunChange.{Going, going, holding_kit, opened_by as opened_in_kit, step_of, table_kit}
-use Rattle.ckr_points_tables.specs.StepEnd.{AreLengthsOf}
+use Rattle.ckr_points_runs.specs.RunChange.{Going, going, holding_kit, opened_by as opened_in_kit, step_of, table_kit}
+use Rattle.ckr_points_runs.specs.StepEnd.{AreLengthsOf}
 use Rattle.ckr_points.specs.Follows.{are_items, are_lengths, are_made_clear, is_empty, is_in_state, is_part_whole, lengths_follow, made_dds, may_start, started_follows}
-use Rattle.ckr_points_tables.specs.NewSets.{made_named, MayMakeAll, MayMakeNamed}
+use Rattle.ckr_points_runs.specs.NewSets.{made_named, MayMakeAll, MayMakeNamed}
 use Rattle.ckr_points.specs.Restart.{place_of, step_in}
 use Rattle.ckr_points.specs.Rows.{RunRow, TableSet, TablesModel, standing_of, table_ways}
-use Rattle.ckr_points_tables.specs.View.{RunTableView, Writings, has_few_dds, row_with, table_in}
-use Rattle.ckr_points_tables.specs.Start.{MayStartIn}
+use Rattle.ckr_points_runs.specs.View.{RunTableView, row_with}
+use Rattle.ckr_points_tables.specs.View.{Writings, table_in}
+use Rattle.ckr_points_runs.specs.RunJobs.{has_few_dds}
+use Rattle.ckr_points_runs.specs.Start.{MayStartIn}
 use Rattle.ckr_points_tables.proofs.RunChanges.{MakesSame, MakesSameAt}
 use Rattle.ckr_points_tables.proofs.Starts.Items.{count, count-items, makes}
-use Rattle.ckr_points_tables.proofs.MarkOrder.{all_same}
-use Rattle.ckr_points_tables.proofs.Steps.{few_serials}
+use Rattle.ckr_points_runs.proofs.MarkOrder.{all_same}
+use Rattle.ckr_points_runs.proofs.Steps.{few_serials}
 use Rattle.ckr_points_tables.proofs.SetViews.{named-seen, opened-seen, table_view}
 
 -- ---- what a step opens

@@ -19,15 +19,17 @@ use Rattle.ckr_points.specs.Restart.{after_event, by_step, step_in}
 use Rattle.ckr_points.specs.Rows.{TablesModel, run_of}
 use Rattle.ckr_points.specs.Tables.{after_held}
 use Rattle.ckr_points_library.specs.Commit.{output_names}
-use Rattle.ckr_points_tables.specs.declared.run_table.RunTable.{RunTable}
+use Rattle.ckr_points_runs.specs.declared.run_table.RunTable.{RunTable}
 use Rattle.ckr_points_tables.specs.declared.tables.Tables.TheInside.{Inside}
 use Rattle.ckr_points_tables.specs.Hold.{held, held_facts, held_line}
-use Rattle.ckr_points_tables.specs.Invariant.{AreKept, IsFilled, IsIndexOf, IsWide, MayFollow, is_queued, put_at}
+use Rattle.ckr_points_tables.specs.Invariant.{AreKept, IsIndexOf, IsWide, MayFollow, is_queued, put_at}
+use Rattle.ckr_points_runs.specs.PutBack.{IsFilled}
 use Rattle.ckr_points_tables.specs.Parts.{tables_seen, IsKept}
-use Rattle.ckr_points_tables.specs.RunChange.{Going, by_step_of, desk_with, going, holding_kit, place_now, step_of, table_kit}
-use Rattle.ckr_points_tables.specs.StepEnd.{AreLengthsOf}
-use Rattle.ckr_points_tables.specs.RunJobs.{IsFitting, effective}
-use Rattle.ckr_points_tables.specs.View.{RoomyTables, RunTableView, Writings, facts_of, row_with, rows_of, seen_under, table_in, written_of}
+use Rattle.ckr_points_runs.specs.RunChange.{Going, by_step_of, desk_with, going, holding_kit, place_now, step_of, table_kit}
+use Rattle.ckr_points_runs.specs.StepEnd.{AreLengthsOf}
+use Rattle.ckr_points_runs.specs.RunJobs.{IsFitting, effective}
+use Rattle.ckr_points_tables.specs.View.{RoomyTables, Writings, rows_of, seen_under, table_in}
+use Rattle.ckr_points_runs.specs.View.{RunTableView, facts_of, row_with, written_of}
 use Rattle.ckr_points_tables.proofs.Follows.{lengths_fit}
 use Rattle.ckr_points_tables.proofs.EachSet.{IsKeptBy, by_step-each, committed_by-each}
 use Rattle.ckr_points_tables.proofs.RecordWidths.{AreFilled, AreWide, filled-kept, wide-kept}

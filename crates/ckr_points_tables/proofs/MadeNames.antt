@@ -1,5 +1,5 @@
 -- Which names the steps of a run made, as the tables tell it.
-use Rattle.std.proofs.Common.{◌≡◌, ℕ, zero, suc, pred, ◌&&◌, ◌||◌, Bool, true, false, cond, List, [], ◌∷◌, ◌++◌, map, filter, slice_get, slice_set, take, refl, ap, sym, ◌∙◌, Some, None, Option}
+use Rattle.std.proofs.Common.{◌≡◌, ℕ, zero, suc, pred, ◌&&◌, ◌||◌, Bool, true, false, cond, List, [], ◌∷◌, map, filter, slice_get, slice_set, take, refl, ap, sym, ◌∙◌, Some, None, Option}
 use Rattle.std.specs.Option.{option_map, option_map_or}
 use Rattle.std.proofs.lemmas.List.{length-map}
 use Rattle.std.proofs.lemmas.Option.{same_Some}
@@ -14,11 +14,13 @@ use Rattle.ckr_points.specs.Marks.{is_marked_absent, made_names, point_at}
 use Rattle.ckr_points.specs.Restart.{step_in}
 use Rattle.ckr_points.specs.Rows.{RunRow, StartPoint, TableSet, TablesModel, run_of, with_row}
 use Rattle.ckr_points.specs.Tables.{step_made, steps_made}
-use Rattle.ckr_points_tables.specs.declared.run_table.RunTable.{RunTable}
-use Rattle.ckr_points_tables.specs.MadeNames.{HasFlags, RunPoints, earlier_flags, made_at, made_by, made_in, points_in, points_of}
-use Rattle.ckr_points_tables.specs.RunChange.{HasFlagsFor, earlier_for, earlier_now, place_now}
-use Rattle.ckr_points_tables.specs.RunJobs.{effective}
-use Rattle.ckr_points_tables.specs.View.{RunTableView, facts_in, facts_of}
+use Rattle.ckr_points_runs.specs.declared.run_table.RunTable.{RunTable}
+use Rattle.ckr_points_runs.specs.MadeNames.{HasFlags, RunPoints, earlier_flags, made_at, made_by, made_in, points_in, points_of}
+use Rattle.ckr_points_runs.specs.RunChange.{HasFlagsFor, earlier_for, earlier_now, place_now}
+use Rattle.ckr_points_runs.specs.RunJobs.{effective}
+pub use Rattle.ckr_points_runs.proofs.OwnNames.{among-both}
+use Rattle.ckr_points_runs.specs.View.{RunTableView, facts_of}
+use Rattle.ckr_points_tables.specs.View.{facts_in}
 
 -- ---- names that were made
 
@@ -33,14 +35,6 @@ among-filtered p (other ∷ names) name = by (p other) (same_name name other) re
     by true false passes same more = ap (λ b. b || is_among (filter p names) name) same ∙ more
     by false true passes same more = more ∙ ap (λ b. is_among names name && b) (ap p (name-same name other same) ∙ passes) ∙ and-false (is_among names name) ∙ sym (ap p (name-same name other same) ∙ passes)
     by false false passes same more = more
-
-pub among-both : (first second : List Name) (name : Name) → is_among (first ++ second) name ≡ (is_among first name || is_among second name)
-among-both [] second name = refl
-among-both (other ∷ first) second name = ap (λ b. same_name name other || b) (among-both first second name) ∙ sym (join (same_name name other) (is_among first name) (is_among second name))
-  where
-    join : (a b c : Bool) → (a || b) || c ≡ (a || (b || c))
-    join true b c = refl
-    join false b c = refl
 
 -- among the names that a step point marks absent
 pub point_names : (found : Option StartPoint) (names : List Name) (name : Name) → is_among (option_map_or (λ (point : StartPoint). made_names point.marks names) found []) name ≡ (is_among names name && option_map_or (λ (point : StartPoint). is_marked_absent point.marks name) found false)

@@ -1,5 +1,5 @@
 -- What a run is to be that continues another one.
-use Rattle.std.proofs.Common.{◌≡◌, ℕ, true, false, refl, ap, sym, ◌∙◌, Option, Some, None}
+use Rattle.std.proofs.Common.{◌≡◌, ℕ, true, refl, ap, sym, ◌∙◌, Option, Some, None}
 use Rattle.std.specs.Option.{is_some, option_and_then, option_map}
 use Rattle.std.proofs.lemmas.Bool.{false≢true}
 use Rattle.ckr_entry.specs.declared.point.Mark.{Mark}
@@ -8,9 +8,9 @@ use Rattle.ckr_library.specs.NameMaps.{Name}
 use Rattle.ckr_meaning.specs.EffectiveJob.{OwnedStep, step_at}
 use Rattle.ckr_points.specs.Marks.{point_at}
 use Rattle.ckr_points.specs.Rows.{StartPoint}
-use Rattle.ckr_points_tables.specs.RunJobs.{effective}
+use Rattle.ckr_points_runs.specs.RunJobs.{effective}
 use Rattle.ckr_points_tables.specs.Selection.{Entries, Resumption, continued_facts, prepared, resumed}
-use Rattle.ckr_points_tables.specs.View.{RunTableView}
+use Rattle.ckr_points_runs.specs.View.{RunTableView}
 
 module _ (now : Name → Mark) (entries : Entries) (run number : ℕ) (deck : Job) (earlier : RunTableView) (step : ℕ) (id : Option Name) where
   abbrev at_point : StartPoint → Option RunTableView

@@ -4,8 +4,9 @@ use Rattle.ckr_events.specs.declared.event.Event.{Event}
 use Rattle.ckr_library.specs.Catalog.{Holding}
 use Rattle.ckr_library.specs.NameMaps.{EachEntry, Named}
 use Rattle.ckr_points.specs.Rows.{TableSet}
-use Rattle.ckr_points_tables.specs.RunChange.{Going, changed, holding_kit}
-use Rattle.ckr_points_tables.specs.Invariant.{IsFilled, IsWide}
+use Rattle.ckr_points_runs.specs.RunChange.{Going, changed, holding_kit}
+use Rattle.ckr_points_runs.specs.PutBack.{IsFilled}
+use Rattle.ckr_points_tables.specs.Invariant.{IsWide}
 use Rattle.ckr_points_tables.specs.View.{Writings, seen_under, table_in}
 use Rattle.ckr_points_tables.proofs.EachSet.{IsKeptBy, MayMakeBy, changed-each}
 

@@ -10,13 +10,14 @@ use Rattle.ckr_points.specs.declared.run.RunState.TheVariants.{Held as HeldRun, 
 use Rattle.ckr_points.specs.Follows.{is_in_state}
 use Rattle.ckr_points.specs.Restart.{after_event}
 use Rattle.ckr_points.specs.Rows.{RunRow, TablesModel, run_of, with_run}
-use Rattle.ckr_points_tables.specs.declared.run_table.RunTable.{RunTable}
+use Rattle.ckr_points_runs.specs.declared.run_table.RunTable.{RunTable}
 use Rattle.ckr_points_tables.specs.declared.tables.Tables.TheInside.{Inside}
 use Rattle.ckr_points_tables.specs.Invariant.{AreKept, MayFollow}
 use Rattle.ckr_points_tables.specs.Parts.{tables_seen, IsKept}
 use Rattle.ckr_points_tables.specs.Release.{released_line}
-use Rattle.ckr_points_tables.specs.RunChange.{going}
-use Rattle.ckr_points_tables.specs.View.{RoomyTables, facts_of, rows_of, seen_under, table_in, written_of}
+use Rattle.ckr_points_runs.specs.RunChange.{going}
+use Rattle.ckr_points_tables.specs.View.{RoomyTables, rows_of, seen_under, table_in}
+use Rattle.ckr_points_runs.specs.View.{facts_of, written_of}
 use Rattle.ckr_points_tables.proofs.RunMoves.{IsPlaced, StaysRun, desk_moved, index_stays, kept_moved, placed_so, run_there}
 
 module _ (a : Inside) (self : RoomyTables) (view : tables_seen a ≡ self) (kept : IsKept a) (job : ℕ) (may : MayFollow self.desk (Released job) None) where

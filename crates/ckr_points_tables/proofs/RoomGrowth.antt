@@ -12,22 +12,24 @@ use Rattle.ckr_library.specs.NameMaps.{Name, Named, entry_at}
 use Rattle.ckr_meaning.specs.EffectiveJob.{HasDistinctNames, OwnedStep, names_of_job, step_at}
 use Rattle.ckr_points.specs.declared.run.Run.{Run}
 use Rattle.ckr_base.specs.RoomyLists.{Roomy}
-use Rattle.ckr_points_tables.specs.declared.run_table.RunTable.{RunTable}
-use Rattle.ckr_points_tables.specs.declared.run_table.WrittenEntry.{WrittenEntry}
-use Rattle.ckr_points_tables.specs.declared.tables.Spare.{Spare}
-use Rattle.ckr_points_tables.specs.RunChange.{place_now}
-use Rattle.ckr_points_tables.specs.StepEnd.{HasPassedRoom}
+use Rattle.ckr_points_runs.specs.declared.run_table.RunTable.{RunTable}
+use Rattle.ckr_points_runs.specs.declared.run_table.WrittenEntry.{WrittenEntry}
+use Rattle.ckr_points_runs.specs.declared.spare.Spare.{Spare}
+use Rattle.ckr_points_runs.specs.RunChange.{place_now}
+use Rattle.ckr_points_runs.specs.StepEnd.{HasPassedRoom}
 use Rattle.ckr_points_tables.specs.Invariant.{AreKept, AreRuns, HasEndRoom, HasEntryRoom, HasKeptRoom, HasRestartRoom, HasRoomUnder, HasStartRoom, IsRun, entries_at, room_at}
 use Rattle.ckr_points.specs.Restart.{step_in}
 use Rattle.ckr_points_tables.specs.Restart.{HasPassedFor, passed_for}
 use Rattle.ckr_points_tables.specs.Rooms.{EndsFit, EntryFits, FitsPoint, HasNoLess, HasNoPlace, HasRoomFor, KeepsFit, StartsFit}
-use Rattle.ckr_points_tables.specs.Checkpoint.{checkpoint_name}
-use Rattle.ckr_points_tables.specs.Needs.{step_now}
+use Rattle.ckr_points_runs.specs.Checkpoint.{checkpoint_name}
+use Rattle.ckr_points_runs.specs.Needs.{step_now}
 use Rattle.ckr_points_tables.proofs.NamedViews.{at-viewed, viewed}
 use Rattle.ckr_points.specs.Rows.{RunRow, TablesModel, run_of}
 use Rattle.ckr_points.specs.Syschk.{names_its_set}
-use Rattle.ckr_points_tables.specs.RunJobs.{IsFitting, effective}
-use Rattle.ckr_points_tables.specs.View.{is_within_limits, RoomyTables, TablesRoom, RunTableView, RunRoom, Writings, facts_of, kept_room, table_in, room_of, row_of, row_with, rows_of}
+use Rattle.ckr_points_runs.specs.RunJobs.{IsFitting, effective}
+use Rattle.ckr_points_runs.specs.RunJobs.{is_within_limits}
+use Rattle.ckr_points_tables.specs.View.{RoomyTables, TablesRoom, RunRoom, Writings, kept_room, table_in, room_of, row_of, rows_of}
+use Rattle.ckr_points_runs.specs.View.{RunTableView, facts_of, row_with}
 use Rattle.ckr_points_tables.proofs.Restarts.Views.{passed-there}
 use Rattle.ckr_points_tables.proofs.Runs.{rows-at, run-stays, runs-at, runs-set}
 

@@ -27,17 +27,17 @@ use Rattle.ckr_meaning.specs.declared.place.Place.{Place}
 use Rattle.ckr_meaning.specs.declared.place.Place.TheVariants.{Before, Opened, Within}
 use Rattle.ckr_points.specs.declared.run.Run.{Run}
 use Rattle.ckr_points.specs.declared.run.RunState.TheVariants.{Denied as DeniedRun, Purged as PurgedRun}
-use Rattle.ckr_points_tables.specs.RunChange.{Going, going, fresh_point, opened_by, changed, checkpointed, coded, desk_with, disposed, disposed_of, earlier_for, earlier_now, ended, ended_at, ended_by, ended_in, gone_on, place_now, rewritten, started, step_ended, step_of, table_kit}
-use Rattle.ckr_points_tables.specs.MadeNames.{RunPoints, earlier_flags, made_at, made_in}
+use Rattle.ckr_points_runs.specs.RunChange.{Going, going, fresh_point, opened_by, changed, checkpointed, coded, desk_with, disposed, disposed_of, earlier_for, earlier_now, ended, ended_at, ended_by, ended_in, gone_on, place_now, rewritten, started, step_ended, step_of, table_kit}
+use Rattle.ckr_points_runs.specs.MadeNames.{RunPoints, earlier_flags, made_at, made_in}
 use Rattle.ckr_points_tables.proofs.MadeNames.{flags-same, point_names, points-kept, row_points, steps-among}
 use Rattle.ckr_points.specs.Tables.{made_tables, after_cancelled, after_checkpointed, after_commit, after_rewritten, after_dispositions, after_started, after_step_ended, earlier_made, own_made, run_disposal}
-use Rattle.ckr_points_tables.specs.NewSets.{made_from}
+use Rattle.ckr_points_runs.specs.NewSets.{made_from}
 use Rattle.ckr_points_tables.specs.Invariant.{is_run_change}
 use Rattle.ckr_points.specs.Marks.{point_at, with_point, without_passed}
 use Rattle.ckr_points.specs.Restart.{after_event, after_abnormal, after_chosen, after_ended, after_passed_ended, by_run, by_step, step_in}
 use Rattle.ckr_points.specs.Rows.{RunRow, TableSet, TablesModel, run_of, step_of_run, table_ways, with_row, with_run, with_standing}
-use Rattle.ckr_points_tables.specs.RunJobs.{effective}
-use Rattle.ckr_points_tables.specs.View.{RunTableView, row_with}
+use Rattle.ckr_points_runs.specs.RunJobs.{effective}
+use Rattle.ckr_points_runs.specs.View.{RunTableView, row_with}
 
 -- a run put twice
 with_row-again : (number : ℕ) (one other : RunRow) (runs : List RunRow) → with_row other number (with_row one number runs) ≡ with_row other number runs

@@ -12,7 +12,7 @@ use Rattle.ckr_library.specs.Catalog.{Holding}
 use Rattle.ckr_meaning.specs.EffectiveJob.{OwnedStep}
 use Rattle.ckr_meaning.specs.declared.place.Place.{Place}
 use Rattle.ckr_meaning.specs.declared.place.Place.TheVariants.{Before, Opened, Within}
-use Rattle.ckr_points_tables.specs.RunChange.{Going, by_step_of, changed, checkpointed, coded, ended, ended_at, ended_by, ended_in, holding_kit, kept_by, place_now, rewritten, started, step_ended, step_of}
+use Rattle.ckr_points_runs.specs.RunChange.{Going, by_step_of, changed, checkpointed, coded, ended, ended_at, ended_by, ended_in, holding_kit, kept_by, place_now, rewritten, started, step_ended, step_of}
 use Rattle.ckr_points_tables.specs.Invariant.{is_queued}
 use Rattle.ckr_points.specs.Restart.{step_in}
 

@@ -13,14 +13,16 @@ use Rattle.ckr_library.specs.NameMaps.{EachEntry, Named}
 use Rattle.ckr_points.specs.declared.run.Run.{Run}
 use Rattle.ckr_points.specs.Follows.{of_run}
 use Rattle.ckr_points.specs.Rows.{RunRow, TableSet, TablesModel, run_of, with_row}
-use Rattle.ckr_points_tables.specs.declared.run_table.RunTable.{RunTable}
+use Rattle.ckr_points_runs.specs.declared.run_table.RunTable.{RunTable}
 use Rattle.ckr_points_tables.specs.declared.tables.Tables.TheInside.{Inside}
 use Rattle.ckr_points_tables.specs.Parts.{tables_seen, IsKept}
-use Rattle.ckr_points_tables.specs.declared.run_table.WrittenEntry.{WrittenEntry}
-use Rattle.ckr_points_tables.specs.Invariant.{AreKept, IsFilled, IsIndexOf, IsRun, IsWide, initiator_at, is_queued, put_at}
-use Rattle.ckr_points_tables.specs.RunChange.{Going, desk_with, going}
-use Rattle.ckr_points_tables.specs.RunJobs.{IsFitting, effective}
-use Rattle.ckr_points_tables.specs.View.{RoomyTables, facts_of, row_of, row_with, rows_of, seen_under, table_in, written_of}
+use Rattle.ckr_points_runs.specs.declared.run_table.WrittenEntry.{WrittenEntry}
+use Rattle.ckr_points_tables.specs.Invariant.{AreKept, IsIndexOf, IsRun, IsWide, initiator_at, is_queued, put_at}
+use Rattle.ckr_points_runs.specs.PutBack.{IsFilled}
+use Rattle.ckr_points_runs.specs.RunChange.{Going, desk_with, going}
+use Rattle.ckr_points_runs.specs.RunJobs.{IsFitting, effective}
+use Rattle.ckr_points_tables.specs.View.{RoomyTables, row_of, rows_of, seen_under, table_in}
+use Rattle.ckr_points_runs.specs.View.{facts_of, row_with, written_of}
 use Rattle.ckr_points_tables.proofs.Initiators.{index_changed}
 use Rattle.ckr_points_tables.proofs.Runs.{length-rows, rows-at, rows-set, run-stays, runs-at, runs-set}
 

@@ -7,12 +7,13 @@ use Rattle.ckr_base.proofs.Sequences.{get-inside}
 use Rattle.ckr_meaning.specs.EffectiveJob.{HasDistinctNames, OwnedStep}
 use Rattle.ckr_points.specs.declared.run.Run.{Run}
 use Rattle.ckr_points.specs.Rows.{RunRow, TablesModel, run_of}
-use Rattle.ckr_points_tables.specs.declared.run_table.RunTable.{RunTable}
+use Rattle.ckr_points_runs.specs.declared.run_table.RunTable.{RunTable}
 use Rattle.ckr_points_tables.specs.Invariant.{AreRuns, IsRun}
-use Rattle.ckr_points_tables.specs.Rewrite.{has_master}
-use Rattle.ckr_points_tables.specs.RunJobs.{IsFitting, JobView, effective}
+use Rattle.ckr_points_runs.specs.Rewrite.{has_master}
+use Rattle.ckr_points_runs.specs.RunJobs.{IsFitting, JobView, effective}
 use Rattle.ckr_points_tables.specs.RunRows.{IsRunRow}
-use Rattle.ckr_points_tables.specs.View.{RunTableView, job_in, row_of, row_with, rows_of}
+use Rattle.ckr_points_runs.specs.View.{RunTableView, row_with}
+use Rattle.ckr_points_tables.specs.View.{job_in, row_of, rows_of}
 use Rattle.ckr_points_tables.proofs.Runs.{facts-row, run-at}
 
 row-of : (number : ℕ) (line : Run) (table : RunTable) → number ≤ 9999999 → IsRun number line table → IsRunRow number (row_of line table)

@@ -7,14 +7,15 @@ use Rattle.std.proofs.lemmas.Option.{same_Some}
 use Rattle.ckr_base.proofs.Numbers.{nat_eq-false, nat_eq-true, zero-not-suc}
 use Rattle.ckr_base.proofs.Options.{some-not-none}
 use Rattle.ckr_points.specs.declared.run.Run.{Run}
-use Rattle.ckr_points_tables.specs.declared.run_table.RunTable.{RunTable}
+use Rattle.ckr_points_runs.specs.declared.run_table.RunTable.{RunTable}
 use Rattle.ckr_points.specs.Rows.{RunRow, TablesModel, run_of}
 use Rattle.std.specs.List.{list_all}
 use Rattle.ckr_meaning.specs.EffectiveJob.{HasDistinctNames, OwnedStep, owned_by}
 use Rattle.ckr_points.specs.Syschk.{names_its_set}
-use Rattle.ckr_points_tables.specs.Rewrite.{has_master}
-use Rattle.ckr_points_tables.specs.RunJobs.{IsFitting, JobView, effective, is_within_limits}
-use Rattle.ckr_points_tables.specs.View.{facts_of, facts_in, line_of, place_of, row_of, rows_of}
+use Rattle.ckr_points_runs.specs.Rewrite.{has_master}
+use Rattle.ckr_points_runs.specs.RunJobs.{IsFitting, JobView, effective, is_within_limits}
+use Rattle.ckr_points_runs.specs.View.{facts_of, place_of}
+use Rattle.ckr_points_tables.specs.View.{facts_in, line_of, row_of, rows_of}
 use Rattle.ckr_points_tables.specs.Invariant.{IsRun, AreRuns, IsIndexOf, initiator_at, is_queued}
 
 -- each line is that of its row

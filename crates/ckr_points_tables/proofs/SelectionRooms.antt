@@ -12,10 +12,11 @@ use Rattle.ckr_points.specs.Restart.{kept_at, rcs_before, syschk_name}
 use Rattle.ckr_points.specs.Rows.{RunRow, StartPoint, TableSet, TablesModel, run_of}
 use Rattle.ckr_points_tables.specs.Invariant.{HasSelectionRoom}
 use Rattle.ckr_points_tables.specs.Rooms.{HasNoPlace}
-use Rattle.ckr_points_tables.specs.declared.run_table.RunTable.{RunTable}
-use Rattle.ckr_points_tables.specs.RunJobs.{JobView, continued_view, effective}
+use Rattle.ckr_points_runs.specs.declared.run_table.RunTable.{RunTable}
+use Rattle.ckr_points_runs.specs.RunJobs.{JobView, continued_view, effective}
 use Rattle.ckr_points_tables.specs.Selection.{HasLostRoom, Resumption, begun_facts, entries_in, prepared, prepared_for, prepared_of, resumed, resumed_at_entry}
-use Rattle.ckr_points_tables.specs.View.{NextRun, RoomyTables, RunTableView, Writings, facts_of, next_of, seen_by, table_in, table_of}
+use Rattle.ckr_points_tables.specs.View.{NextRun, RoomyTables, Writings, next_of, table_in}
+use Rattle.ckr_points_runs.specs.View.{RunTableView, facts_of, seen_by, table_of}
 use Rattle.ckr_points_tables.proofs.NamedViews.{viewed}
 use Rattle.ckr_points_tables.proofs.Restarts.Views.{kept-seen}
 use Rattle.ckr_points_tables.proofs.RoomGrowth.{none_beyond}

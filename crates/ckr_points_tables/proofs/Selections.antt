@@ -15,16 +15,17 @@ use Rattle.ckr_points.specs.Marks.{is_as_marked, lost_names, made_names, mark_at
 use Rattle.ckr_points.specs.Restart.{carried_point, needed_names, without_names}
 use Rattle.ckr_points.specs.Rows.{StartPoint, TableSet}
 use Rattle.ckr_points_library.specs.Commit.{output_names}
-use Rattle.ckr_points_tables.specs.PutBack.{all_made_gone, catalog_back, catalogs_back, cut_back, lengths_back}
-use Rattle.ckr_points_tables.specs.RunJobs.{JobView, effective, names_in}
-use Rattle.ckr_points_tables.specs.RunMarks.{names_from}
+use Rattle.ckr_points_runs.specs.PutBack.{all_made_gone, catalog_back, catalogs_back, cut_back, lengths_back}
+use Rattle.ckr_points_runs.specs.RunJobs.{JobView, effective, names_in}
+use Rattle.ckr_points_runs.specs.RunMarks.{names_from}
 use Rattle.ckr_points_tables.specs.Selection.{carried_in, sets_resumed}
-use Rattle.ckr_points_tables.specs.View.{Writings, seen_by, table_in, table_of}
+use Rattle.ckr_points_tables.specs.View.{Writings, table_in}
+use Rattle.ckr_points_runs.specs.View.{seen_by, table_of}
 use Rattle.ckr_points_tables.proofs.NamedViews.{at-viewed, viewed}
 use Rattle.ckr_points_tables.proofs.PutBack.{back-each, back-seen, gone-each, gone-seen}
-use Rattle.ckr_points_tables.proofs.RunJobs.{names-next}
+use Rattle.ckr_points_runs.proofs.RunJobs.{names-next}
 use Rattle.ckr_points_tables.proofs.SetViews.{marked_same, marks-seen}
-use Rattle.ckr_points_tables.proofs.MadeNames.{among-both}
+use Rattle.ckr_points_runs.proofs.OwnNames.{among-both}
 
 -- ---- catalog marks
 

@@ -24,17 +24,18 @@ use Rattle.ckr_meaning.specs.EffectiveJob.{OwnedStep, is_among, name_of, names_o
 use Rattle.ckr_meaning.specs.declared.place.Place.{Place}
 use Rattle.ckr_meaning.specs.declared.place.Place.TheVariants.{Before, Opened, Within}
 use Rattle.ckr_points_tables.proofs.MeaningViews.{GoesThrough, viewed-opened_all, viewed-disposed_all, viewed-placed_in}
-use Rattle.ckr_points_tables.specs.RunChange.{Going, Kit, going, by_step_of, changed, check_point, checkpointed, checkpointed_facts, kept_by, committed_by, coded, disposed, ended, ended_at, ended_by, ended_in, fresh_point, gone_on, holding_kit, opened_by, place_now, restamped, rewritten, started, step_ended, step_of, table_kit, within}
-use Rattle.ckr_points_tables.specs.StepEnd.{disposals_at}
+use Rattle.ckr_points_runs.specs.RunChange.{Going, Kit, going, by_step_of, changed, check_point, checkpointed, checkpointed_facts, kept_by, committed_by, coded, disposed, ended, ended_at, ended_by, ended_in, fresh_point, gone_on, holding_kit, opened_by, place_now, restamped, rewritten, started, step_ended, step_of, table_kit, within}
+use Rattle.ckr_points_runs.specs.StepEnd.{disposals_at}
 use Rattle.ckr_meaning.specs.StepRun.{rewritten_stamp}
 use Rattle.ckr_points.specs.Tables.{is_checkpoints, is_updates, kept_entry, name_with_role, parts_from}
-use Rattle.ckr_points_tables.specs.NewSets.{has_items, made_from, made_named}
+use Rattle.ckr_points_runs.specs.NewSets.{has_items, made_from, made_named}
 use Rattle.ckr_points.specs.Marks.{mark_at, mark_now, marked_under, present_of, with_point, without_passed}
 use Rattle.ckr_points.specs.Restart.{step_in}
 use Rattle.ckr_points.specs.Rows.{KeptEntry, StartPoint, holding_of}
-use Rattle.ckr_points_tables.specs.RunJobs.{effective}
-use Rattle.ckr_points_tables.specs.RunMarks.{carried_by, mark_by, own_names_of, point_marks}
-use Rattle.ckr_points_tables.specs.View.{Writings, find_last, later_or, point_for, seen_by, table_in, table_of}
+use Rattle.ckr_points_runs.specs.RunJobs.{effective}
+use Rattle.ckr_points_runs.specs.RunMarks.{carried_by, mark_by, own_names_of, point_marks}
+use Rattle.ckr_points_tables.specs.View.{Writings, find_last, later_or, point_for, table_in}
+use Rattle.ckr_points_runs.specs.View.{seen_by, table_of}
 use Rattle.ckr_points_library.specs.Allocation.{fresh_set}
 
 -- marks that are the same by name

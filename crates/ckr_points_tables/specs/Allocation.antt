@@ -9,7 +9,7 @@ use Rattle.ckr_events.specs.declared.event.Made.{Made}
 use Rattle.ckr_meaning.specs.EffectiveJob.{OwnedStep, name_of, placed_in, stamp_of}
 use Rattle.ckr_points.specs.Rows.{RunRow, TablesModel, holding_of, run_of, standing_of, step_of_run, table_ways}
 use Rattle.ckr_volumes.specs.declared.layout.Layout.{Layout}
-use Rattle.ckr_points_tables.specs.View.{seen_by}
+use Rattle.ckr_points_runs.specs.View.{seen_by}
 
 -- the new parts of an allocation, or its refusal
 abbrev pub IsAllocation : Result Allocation Refusal → Result (ArrayVec Made) Refusal → Type 0

@@ -5,8 +5,8 @@ use Rattle.ckr_meaning.specs.EffectiveJob.{OwnedStep}
 use Rattle.ckr_meaning.specs.declared.place.Place.TheVariants.{Within}
 use Rattle.ckr_points.specs.declared.run.Run.{Run}
 use Rattle.ckr_points.specs.declared.run.RunState.TheVariants.{Held as HeldRun}
-use Rattle.ckr_points_tables.specs.RunChange.{Going, Kit, committed_by, going}
-use Rattle.ckr_points_tables.specs.View.{RunTableView}
+use Rattle.ckr_points_runs.specs.RunChange.{Going, Kit, committed_by, going}
+use Rattle.ckr_points_runs.specs.View.{RunTableView}
 
 -- the line of a run that is held: it is on no initiator
 abbrev pub held_line : Run → Run

@@ -20,18 +20,20 @@ use Rattle.ckr_points.specs.declared.run.Run.{Run}
 use Rattle.ckr_points.specs.declared.run.RunState.{RunState}
 use Rattle.ckr_points.specs.declared.run.RunState.TheVariants.{Queued}
 use Rattle.ckr_points.specs.Syschk.{names_its_set}
-use Rattle.ckr_points_tables.specs.RunJobs.{IsFitting, effective}
-use Rattle.ckr_points_tables.specs.declared.run_table.RunTable.{RunTable}
-use Rattle.ckr_points_tables.specs.declared.run_table.WrittenEntry.{WrittenEntry}
-use Rattle.ckr_points_tables.specs.Checkpoint.{checkpoint_name}
-use Rattle.ckr_points_tables.specs.StepEnd.{HasPassedRoom}
+use Rattle.ckr_points_runs.specs.RunJobs.{IsFitting, effective}
+use Rattle.ckr_points_runs.specs.declared.run_table.RunTable.{RunTable}
+use Rattle.ckr_points_runs.specs.declared.run_table.WrittenEntry.{WrittenEntry}
+use Rattle.ckr_points_runs.specs.Checkpoint.{checkpoint_name}
+use Rattle.ckr_points_runs.specs.PutBack.{IsFilled}
+use Rattle.ckr_points_runs.specs.StepEnd.{HasPassedRoom}
 use Rattle.ckr_points.specs.Follows.{follows}
 use Rattle.ckr_points.specs.Rows.{EffectPoint, KeptEntry, TableSet, TablesModel, RunRow, run_of, step_of_run}
-use Rattle.ckr_points_tables.specs.Rewrite.{HasFewRewrites, has_master}
+use Rattle.ckr_points_runs.specs.Rewrite.{HasFewRewrites, has_master}
 use Rattle.ckr_points.specs.Restart.{kept_at, place_of, step_in}
 use Rattle.ckr_points_tables.specs.Restart.{HasPassedFor, passed_at_start}
 use Rattle.ckr_points_tables.specs.Selection.{prepared_for}
-use Rattle.ckr_points_tables.specs.View.{NextRun, RunRoom, TablesRoom, RoomyTables, is_within_limits, kept_room}
+use Rattle.ckr_points_tables.specs.View.{NextRun, RunRoom, TablesRoom, RoomyTables, kept_room}
+use Rattle.ckr_points_runs.specs.RunJobs.{is_within_limits}
 
 -- ---- what holds of runs
 
@@ -76,10 +78,6 @@ pub record IsIndexOf (index : List ℕ) (lines : List Run) : Type 0 where
 -- records of at least one byte
 abbrev pub IsWide : Holding → Type 0
 IsWide holding = 1 ≤ holding.set.lrecl
-
--- no more records than have room
-abbrev pub IsFilled : Holding → Type 0
-IsFilled holding = holding.set.length ≤ holding.set.space
 
 pub record AreKept (sets : Named Holding) (lines : List Run) (tables : List RunTable) (index : List ℕ) (marks : List Mark) (writings : List (Roomy WrittenEntry)) : Type 0 where
   pub wide : EachEntry IsWide sets

@@ -2,11 +2,12 @@
 use Rattle.std.specs.Prelude.{◌-◌, map, vec_len, vec_capacity}
 use Rattle.std.specs.Option.{option_map}
 use Rattle.ckr_base.specs.RoomyLists.{Roomy}
-use Rattle.ckr_points_tables.specs.declared.run_table.WrittenEntry.{WrittenEntry}
+use Rattle.ckr_points_runs.specs.declared.run_table.WrittenEntry.{WrittenEntry}
 use Rattle.ckr_points_tables.specs.declared.tables.Tables.TheInside.{Inside}
 use Rattle.ckr_points_tables.specs.BegunRuns.{AreEnded, AreWaiting}
 use Rattle.ckr_points_tables.specs.Invariant.{AreKept}
-use Rattle.ckr_points_tables.specs.View.{RoomyTables, next_of, room_of, rows_of, seen_under, table_in, written_of}
+use Rattle.ckr_points_tables.specs.View.{RoomyTables, next_of, room_of, rows_of, seen_under, table_in}
+use Rattle.ckr_points_runs.specs.View.{written_of}
 
 abbrev pub tables_seen : Inside → RoomyTables
 tables_seen a = record {

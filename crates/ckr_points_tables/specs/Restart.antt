@@ -15,10 +15,11 @@ use Rattle.ckr_points.specs.Rows.{EffectPoint, EntryPoint, StartPoint}
 use Rattle.ckr_points.specs.declared.run.Run.{Run}
 use Rattle.ckr_points.specs.declared.run.RunState.TheVariants.{On}
 use Rattle.ckr_points_library.specs.Commit.{output_names}
-use Rattle.ckr_points_tables.specs.PutBack.{all_made_gone, sets_back}
-use Rattle.ckr_points_tables.specs.RunChange.{Going, by_step_of, going, place_now}
-use Rattle.ckr_points_tables.specs.View.{RunTableView, Writings, entry_point_of, no_point, point_for}
-use Rattle.ckr_points_tables.specs.declared.run_table.WrittenEntry.{WrittenEntry}
+use Rattle.ckr_points_runs.specs.PutBack.{all_made_gone, sets_back}
+use Rattle.ckr_points_runs.specs.RunChange.{Going, by_step_of, going, place_now}
+use Rattle.ckr_points_runs.specs.View.{RunTableView, entry_point_of}
+use Rattle.ckr_points_tables.specs.View.{Writings, no_point, point_for}
+use Rattle.ckr_points_runs.specs.declared.run_table.WrittenEntry.{WrittenEntry}
 
 -- the line of a run that goes on
 abbrev pub line_on : ℕ → Run → Run

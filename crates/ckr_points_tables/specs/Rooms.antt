@@ -5,14 +5,14 @@ use Rattle.ckr_library.specs.Catalog.{Catalog, HasSet, KeepsEntryRoom, entry_roo
 use Rattle.ckr_library.specs.NameMaps.{Name}
 use Rattle.ckr_meaning.specs.EffectiveJob.{OwnedStep, names_of_job, step_at}
 use Rattle.ckr_base.specs.RoomyLists.{Roomy}
-use Rattle.ckr_points_tables.specs.declared.run_table.RunTable.{RunTable}
-use Rattle.ckr_points_tables.specs.declared.run_table.WrittenEntry.{WrittenEntry}
-use Rattle.ckr_points_tables.specs.declared.tables.Spare.{Spare}
-use Rattle.ckr_points_tables.specs.Checkpoint.{checkpoint_name}
-use Rattle.ckr_points_tables.specs.StepEnd.{HasPassedRoom}
+use Rattle.ckr_points_runs.specs.declared.run_table.RunTable.{RunTable}
+use Rattle.ckr_points_runs.specs.declared.run_table.WrittenEntry.{WrittenEntry}
+use Rattle.ckr_points_runs.specs.declared.spare.Spare.{Spare}
+use Rattle.ckr_points_runs.specs.Checkpoint.{checkpoint_name}
+use Rattle.ckr_points_runs.specs.StepEnd.{HasPassedRoom}
 use Rattle.ckr_points_tables.specs.Invariant.{entries_at, room_at}
-use Rattle.ckr_points_tables.specs.Needs.{step_now}
-use Rattle.ckr_points_tables.specs.RunJobs.{JobView, effective}
+use Rattle.ckr_points_runs.specs.Needs.{step_now}
+use Rattle.ckr_points_runs.specs.RunJobs.{JobView, effective}
 use Rattle.ckr_points_tables.specs.View.{TablesRoom, RunRoom, kept_room}
 
 -- how many DDs steps have

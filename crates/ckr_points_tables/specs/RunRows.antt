@@ -4,9 +4,11 @@ use Rattle.std.specs.List.{list_all}
 use Rattle.ckr_meaning.specs.EffectiveJob.{HasDistinctNames, OwnedStep}
 use Rattle.ckr_points.specs.Rows.{RunRow}
 use Rattle.ckr_points.specs.Syschk.{names_its_set}
-use Rattle.ckr_points_tables.specs.Rewrite.{has_master}
-use Rattle.ckr_points_tables.specs.RunJobs.{IsFitting}
-use Rattle.ckr_points_tables.specs.View.{facts_in, is_within_limits, job_in, line_of, row_with}
+use Rattle.ckr_points_runs.specs.Rewrite.{has_master}
+use Rattle.ckr_points_runs.specs.RunJobs.{IsFitting}
+use Rattle.ckr_points_tables.specs.View.{facts_in, job_in, line_of}
+use Rattle.ckr_points_runs.specs.RunJobs.{is_within_limits}
+use Rattle.ckr_points_runs.specs.View.{row_with}
 
 -- the row of the run of this number: it is told by its line and its facts, and has taken over the steps up to the one at which it continues another run
 pub record IsRunRow (number : ℕ) (row : RunRow) : Type 0 where

@@ -16,14 +16,15 @@ use Rattle.ckr_points.specs.Restart.{kept_at, rcs_before, syschk_name, without_n
 use Rattle.ckr_points.specs.Rows.{EffectPoint, KeptEntry, RunRow, StartPoint, TablesModel, run_of}
 use Rattle.ckr_points.specs.Tables.{fresh_effect, kept_entry}
 use Rattle.ckr_points_library.specs.Commit.{output_names}
-use Rattle.ckr_points_tables.specs.PutBack.{all_made_gone, sets_back}
+use Rattle.ckr_points_runs.specs.PutBack.{all_made_gone, sets_back}
 use Rattle.ckr_points_tables.specs.Restart.{kept_under, line_on}
-use Rattle.ckr_points_tables.specs.RunChange.{Going, going}
-use Rattle.ckr_points_tables.specs.RunJobs.{JobView, continued_view, effective}
-use Rattle.ckr_points_tables.specs.RunMarks.{names_from, own_names_of}
-use Rattle.ckr_points_tables.specs.View.{RunTableView, Writings, effect_of, point_for, seen_by, table_of}
+use Rattle.ckr_points_runs.specs.RunChange.{Going, going}
+use Rattle.ckr_points_runs.specs.RunJobs.{JobView, continued_view, effective}
+use Rattle.ckr_points_runs.specs.RunMarks.{names_from, own_names_of}
+use Rattle.ckr_points_runs.specs.View.{RunTableView, effect_of, seen_by, table_of}
+use Rattle.ckr_points_tables.specs.View.{Writings, point_for}
 use Rattle.ckr_points_tables.specs.declared.continuation.Resumption.{Resumption as ResumptionInCode}
-use Rattle.ckr_points_tables.specs.declared.run_table.RunTable.{RunTable}
+use Rattle.ckr_points_runs.specs.declared.run_table.RunTable.{RunTable}
 
 -- ---- what is made beforehand: the run as it goes on, but for the names that it loses
 

@@ -1,52 +1,20 @@
 -- How the tables in code are seen.
-use Rattle.std.specs.Prelude.{ℕ, zero, suc, ◌-◌, vec_len, vec_capacity, ◌==◌, Bool, false, ◌&&◌, nat_eq, if◌then◌else◌, List, [], ◌∷◌, map, find, slice_get, take, Option, Some, None}
+use Rattle.std.specs.Prelude.{ℕ, zero, suc, ◌-◌, vec_len, vec_capacity, ◌==◌, Bool, ◌&&◌, nat_eq, if◌then◌else◌, List, [], ◌∷◌, map, find, slice_get, take, Option, Some, None}
 use Rattle.std.specs.Option.{option_map, option_map_or, option_eq}
-use Rattle.ckr_base.specs.RoomyLists.{Roomy}
-use Rattle.ckr_base.specs.declared.code.Code.{Code}
 use Rattle.ckr_jcl.specs.declared.deck.Job.{Job}
 use Rattle.ckr_library.specs.Catalog.{Holding}
 use Rattle.ckr_library.specs.NameMaps.{Name, Named, entry_at, same_name}
 use Rattle.ckr_library.specs.declared.sets.Kept.{Kept}
-use Rattle.ckr_entry.specs.declared.point.Passed.{Passed}
-use Rattle.ckr_meaning.specs.JobRun.{StepCodes}
-use Rattle.ckr_meaning.specs.declared.place.Place.{Place}
 use Rattle.ckr_points.specs.declared.run.Run.{Run}
-pub use Rattle.ckr_points_tables.specs.RunJobs.{has_few_dds, has_few_serials, is_within_limits}
-use Rattle.ckr_points_tables.specs.RunJobs.{JobView, effective, plain_view}
-use Rattle.ckr_points_tables.specs.declared.run_table.StepPoint.{StepPoint}
-use Rattle.ckr_points_tables.specs.declared.run_table.InEffect.{InEffect}
-use Rattle.ckr_points_tables.specs.declared.run_table.ReturnCode.{ReturnCode}
-use Rattle.ckr_points_tables.specs.declared.run_table.RunTable.{RunTable}
-use Rattle.ckr_points_tables.specs.declared.run_table.WrittenEntry.{WrittenEntry}
-use Rattle.ckr_points.specs.Rows.{EntryPoint, TableSet, StartPoint, EffectPoint, RunRow, TablesModel}
+pub use Rattle.ckr_points_runs.specs.RunJobs.{has_few_dds, has_few_serials, is_within_limits}
+pub use Rattle.ckr_points_runs.specs.View.{RunTableView, effect_of, entry_point_of, facts_of, point_of, row_with, seen_by}
+use Rattle.ckr_points_runs.specs.View.{Writing}
+use Rattle.ckr_points_runs.specs.RunJobs.{JobView, plain_view}
+use Rattle.ckr_points_runs.specs.declared.run_table.RunTable.{RunTable}
+use Rattle.ckr_points.specs.Rows.{EntryPoint, TableSet, RunRow, TablesModel}
 use Rattle.ckr_points.specs.Tables.{kept_entry}
 
 -- ---- the entries that runs have written
-
--- the point of an entry that a run has written
-abbrev pub entry_point_of : WrittenEntry → EntryPoint
-entry_point_of written = record {
-  job = written.job;
-  run = written.run;
-  owner = written.owner;
-  step = written.step;
-  step_name = written.step_name;
-  count = written.count;
-  taken = written.taken;
-  writes = written.writes;
-  marks = written.marks.items;
-  passed = written.passed.items;
-}
-
--- an entry that a run has written: the data set into which it wrote it, its identifier, where it begins there, and its point
-pub record Writing : Type 0 where
-  pub set : Name
-  pub id : Name
-  pub place : ℕ
-  pub point : EntryPoint
-
-abbrev pub writing_of : WrittenEntry → Writing
-writing_of written = record { set = written.set; id = written.id; place = written.place; point = entry_point_of written }
 
 -- whether this is the entry that the data set of a name keeps
 abbrev pub is_entry : Name → Kept → Writing → Bool
@@ -60,9 +28,6 @@ later_or None first = first
 abbrev pub find_last : {A : Type 0} → (A → Bool) → List A → Option A
 find_last p [] = None
 find_last p (item ∷ items) = later_or (find_last p items) (if p item then Some item else None)
-
-abbrev pub written_of : Roomy WrittenEntry → List Writing
-written_of entries = map writing_of entries.items
 
 -- what each run has written, in the order of their numbers
 abbrev pub Writings : Type 0
@@ -82,14 +47,6 @@ point_for writings set kept = option_map_or (λ (writing : Writing). writing.poi
 
 -- ---- data sets
 
--- a data set without its entries
-abbrev pub table_of : Holding → TableSet
-table_of holding = record { set = holding.set; entries = [] }
-
--- the map with each entry seen so
-abbrev pub seen_by : {X Y : Type 0} → (X → Y) → Named X → Named Y
-seen_by view named = map (λ entry. (entry.0, view entry.1)) named
-
 -- a data set with the points of its entries
 abbrev pub table_in : Writings → Name → Holding → TableSet
 table_in writings set holding = record { set = holding.set; entries = map (λ kept. kept_entry kept (point_for writings set kept)) holding.kept }
@@ -99,51 +56,6 @@ abbrev pub seen_under : {X Y : Type 0} → (Name → X → Y) → Named X → Na
 seen_under view named = map (λ entry. (entry.0, view entry.0 entry.1)) named
 
 -- ---- runs
-
-abbrev pub point_of : StepPoint → StartPoint
-point_of point = record {
-  step = point.step;
-  restarts = point.restarts;
-  rewritten = point.rewritten;
-  count = point.count;
-  marks = point.marks.items;
-  passed = point.passed.items;
-}
-
--- whether a point is that of a step
-abbrev pub has_step : ℕ → Option StepPoint → Bool
-has_step step found = option_map_or (λ (point : StepPoint). point.step == step) found false
-
-abbrev pub effect_of : InEffect → EffectPoint
-effect_of effect = record { set = effect.set; kept = effect.kept; restarts = effect.restarts; rewritten = effect.rewritten }
-
-abbrev pub code_of : ReturnCode → ℕ × ℕ
-code_of code = (code.step, code.rc)
-
--- what a run has besides its line
-pub record RunTableView : Type 0 where
-  pub job : JobView
-  pub place : Option Place
-  pub code : Option Code
-  pub count : ℕ
-  pub rcs : StepCodes
-  pub passed : List Passed
-  pub lost : List Name
-  pub points : List StartPoint
-  pub in_effect : Option EffectPoint
-
-abbrev pub facts_of : RunTable → RunTableView
-facts_of table = record {
-  job = table.job;
-  place = table.place;
-  code = table.code;
-  count = table.count;
-  rcs = map code_of table.codes.items;
-  passed = table.passed.items;
-  lost = table.lost.items;
-  points = map point_of table.points.items;
-  in_effect = option_map effect_of table.in_effect;
-}
 
 -- the job of a run: of the steps up to the one at which it continues another run, it has taken over each
 abbrev pub job_in : RunRow → JobView
@@ -185,26 +97,6 @@ fresh_facts number deck = record {
 abbrev pub line_of : RunRow → Run
 line_of row = record { number = row.number; name = row.deck.name; state = row.state; initiator = row.initiator }
 
--- a run by its line and its facts
-abbrev pub row_with : Run → RunTableView → RunRow
-row_with line facts = record {
-  number = line.number;
-  deck = facts.job.deck;
-  job = effective line.number facts.job;
-  state = line.state;
-  initiator = line.initiator;
-  earlier = facts.job.earlier;
-  earlier_step = facts.job.earlier_step;
-  place = facts.place;
-  code = facts.code;
-  count = facts.count;
-  rcs = facts.rcs;
-  passed = facts.passed;
-  lost = facts.lost;
-  points = facts.points;
-  in_effect = facts.in_effect;
-}
-
 abbrev pub row_of : Run → RunTable → RunRow
 row_of line table = row_with line (facts_of table)
 
@@ -216,11 +108,6 @@ rows_of (line ∷ lines) (table ∷ tables) = row_of line table ∷ rows_of line
 -- how many more entries the data set of a name keeps
 abbrev pub kept_room : Named ℕ → Name → ℕ
 kept_room rooms name = option_map_or (λ room. room) (entry_at rooms name) 0
-
--- the place of a run by its number
-abbrev pub place_of : ℕ → Option ℕ
-place_of zero = None
-place_of (suc place) = Some place
 
 -- the run on an initiator
 abbrev pub run_on : ℕ → TablesModel → Option ℕ

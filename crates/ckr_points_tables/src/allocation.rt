@@ -10,17 +10,18 @@ ghost use Rattle.ckr_library.specs.NameMaps.{EachEntry};
 ghost use Rattle.ckr_meaning.specs.EffectiveJob.{HasDistinctNames, OwnedStep, names_of, placed_in, stamp_of, step_at};
 ghost use Rattle.ckr_points.specs.Rows.{RunRow, TableSet, run_of, step_of_run};
 ghost use Rattle.ckr_points_tables.specs.Allocation.{HasFitting, IsAllocation, IsFromOne, MayAllocate, allocation_in};
-ghost use Rattle.ckr_points_tables.specs.RunJobs.{effective, own_of, IsFitting};
+ghost use Rattle.ckr_points_runs.specs.RunJobs.{effective, own_of, IsFitting};
 ghost use Rattle.ckr_volumes.specs.Layouts.{StandsIn};
 
+use crate::Tables;
 use crate::rooms::place_in;
-use crate::{OwnStep, RunTable, Tables, step_at};
 use arrayvec::ArrayVec;
 use ckr_base::NoMemory;
 use ckr_entry::Passed;
 use ckr_events::{Made, MadeSets, Piece};
 use ckr_library::Library;
 use ckr_points_library::{MadeList, Refusal, allocate_step};
+use ckr_points_runs::{OwnStep, RunTable, step_at};
 use ckr_volumes::Layout;
 use std::alloc::Global;
 

@@ -6,26 +6,23 @@ ghost use Rattle.ckr_points.specs.Marks.{mark_now};
 ghost use Rattle.ckr_points.specs.Restart.{rcs_before, syschk_name};
 ghost use Rattle.ckr_points.specs.Syschk.{names_its_set};
 ghost use Rattle.ckr_points.specs.Tables.{kept_entry};
-ghost use Rattle.ckr_points_tables.specs.RunJobs.{effective, is_within_limits, IsFitting};
+ghost use Rattle.ckr_points_runs.specs.RunJobs.{effective, is_within_limits, IsFitting};
 ghost use Rattle.ckr_points_tables.specs.Selection.{begun_facts, carried_in, carried_marks, entries_in, prepared, resumed, resumed_at_entry, resumed_at_start, resumption_of, HasLostRoom};
-ghost use Rattle.ckr_points_tables.specs.View.{code_of, facts_of, point_for, point_of, seen_by, table_of, written_of};
+ghost use Rattle.ckr_points_runs.specs.View.{code_of, facts_of, point_of, seen_by, table_of, written_of};
+ghost use Rattle.ckr_points_tables.specs.View.{point_for};
 
-use crate::effective_job::has_step;
-use crate::marking::Marking;
-use crate::marks_in_order::MarksInOrder;
 use crate::restart::{count_of, entry_for, kept_under, marks_of, passed_of, writes_of};
 use crate::rooms::dds_of;
-use crate::run_marks::mark_job;
-use crate::start::{point_at, put_marks, put_passed};
-use crate::{
-    EffectiveJob, InEffect, LostNames, ReturnCode, RunTable, StepPoint, StepPoints, WrittenEntries,
-};
 use ckr_base::{CheckId, DsName, NoMemory, RoomyList};
 use ckr_entry::{Mark, Marks, Passed, PassedList};
 use ckr_jcl::Job;
 use ckr_library::{Kept, Library};
 use ckr_meaning::Place;
 use ckr_points::syschk_name;
+use ckr_points_runs::{
+    EffectiveJob, InEffect, LostNames, Marking, MarksInOrder, ReturnCode, RunTable, StepPoint,
+    StepPoints, WrittenEntries, has_step, mark_job, point_at, put_marks, put_passed,
+};
 use std::alloc::Global;
 
 /// Where a run goes on that continues another one, and what its point has.

@@ -7,18 +7,18 @@ ghost use Rattle.ckr_jcl.specs.declared.deck.Job.{Job as JobOfDeck};
 ghost use Rattle.ckr_points.specs.Tables.{after_submitted};
 ghost use Rattle.ckr_points_tables.specs.Invariant.{is_run_change, is_submittable, put_at, HasRoom, HasRunRoom, IsAnySubmittable, MayContinue, MayCount, MayFollow, MaySubmit};
 ghost use Rattle.ckr_points.specs.Restart.{after_event};
-ghost use Rattle.ckr_points_tables.specs.View.{facts_of, fresh_facts};
+ghost use Rattle.ckr_points_runs.specs.View.{facts_of};
+ghost use Rattle.ckr_points_tables.specs.View.{fresh_facts};
 
+use crate::Tables;
 use crate::begun_runs::count_ended;
-use crate::made_names::earlier_for;
-use crate::run_change::change_run;
-use crate::{EffectiveJob, RunTable, StepPoints, Tables};
 use ckr_base::RoomyList;
 use ckr_entry::PassedList;
 use ckr_events::Event;
 use ckr_jcl::Job;
 use ckr_library::Library;
 use ckr_points::{Run, RunState};
+use ckr_points_runs::{EffectiveJob, RunTable, StepPoints, change_run, earlier_for};
 use std::alloc::Global;
 use std::rc::Rc;
 

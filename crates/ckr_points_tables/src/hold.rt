@@ -6,20 +6,19 @@ ghost use Rattle.ckr_meaning.specs.EffectiveJob.{step_at};
 ghost use Rattle.ckr_points.specs.Restart.{after_event, step_in};
 ghost use Rattle.ckr_points_tables.specs.Hold.{held, held_facts, held_line};
 ghost use Rattle.ckr_points_tables.specs.Invariant.{MayFollow};
-ghost use Rattle.ckr_points_tables.specs.RunChange.{by_step_of, going, holding_kit, place_now};
-ghost use Rattle.ckr_points_tables.specs.RunJobs.{effective, IsFitting};
-ghost use Rattle.ckr_points_tables.specs.StepEnd.{AreLengthsOf};
-ghost use Rattle.ckr_points_tables.specs.View.{facts_of};
+ghost use Rattle.ckr_points_runs.specs.RunChange.{by_step_of, going, holding_kit, place_now};
+ghost use Rattle.ckr_points_runs.specs.RunJobs.{effective, IsFitting};
+ghost use Rattle.ckr_points_runs.specs.StepEnd.{AreLengthsOf};
+ghost use Rattle.ckr_points_runs.specs.View.{facts_of};
 
-use crate::effective_job::has_step;
+use crate::Tables;
 use crate::event::put_at;
-use crate::step_end::{commit, step_now};
-use crate::{RunTable, Tables};
 use arrayvec::ArrayVec;
 use ckr_base::Code;
 use ckr_library::Library;
 use ckr_meaning::Place;
 use ckr_points::{Run, RunState};
+use ckr_points_runs::{RunTable, commit, has_step, step_now};
 
 impl Tables {
     /// Goes on by the hold of a run with a code, behind so many writes of its step and with these lengths of its outputs. The hold

@@ -10,22 +10,25 @@ ghost use Rattle.ckr_library.specs.declared.sets.Kept.{Kept as KeptEntry};
 ghost use Rattle.ckr_points.specs.Marks.{point_at, with_point};
 ghost use Rattle.ckr_points.specs.Restart.{after_event, effect_restarted, kept_at, point_restarted};
 ghost use Rattle.ckr_points.specs.Rows.{EffectPoint, KeptEntry as EntryOfSet, StartPoint};
-ghost use Rattle.ckr_points_tables.specs.Invariant.{CanRestart, IsFilled, MayFollow};
+ghost use Rattle.ckr_points_tables.specs.Invariant.{CanRestart, MayFollow};
+ghost use Rattle.ckr_points_runs.specs.PutBack.{IsFilled};
 ghost use Rattle.ckr_points_tables.specs.Restart.{back_at_entry, check_restarted, facts_back, line_on, passed_at_entry, passed_at_start, passed_for, point_written, restarted, step_restarted, HasFewRestarts, HasPassedFor};
-ghost use Rattle.ckr_points_tables.specs.RunChange.{by_step_of, going};
-ghost use Rattle.ckr_points_tables.specs.RunJobs.{effective, IsFitting};
-ghost use Rattle.ckr_points_tables.specs.View.{facts_of, find_last, is_entry, point_for, writing_of, written_of};
+ghost use Rattle.ckr_points_runs.specs.RunChange.{by_step_of, going};
+ghost use Rattle.ckr_points_runs.specs.RunJobs.{effective, IsFitting};
+ghost use Rattle.ckr_points_runs.specs.View.{facts_of, writing_of, written_of};
+ghost use Rattle.ckr_points_tables.specs.View.{find_last, is_entry, point_for};
 
+use crate::Tables;
 use crate::event::put_at;
-use crate::put_back::{delete_all_made, put_back_passed, put_back_sets};
-use crate::start::point_at;
-use crate::step_end::step_now;
-use crate::{RunTable, Tables, WrittenEntries, WrittenEntry, step_at};
 use ckr_base::{CheckId, DsName};
 use ckr_entry::{Mark, Passed};
 use ckr_library::{Kept, Library};
 use ckr_meaning::Place;
 use ckr_points::{Run, RunState};
+use ckr_points_runs::{
+    RunTable, WrittenEntries, WrittenEntry, delete_all_made, point_at, put_back_passed,
+    put_back_sets, step_at, step_now,
+};
 
 impl Tables {
     /// Goes on by an automatic restart of a run on an initiator, at the checkpoint in effect or at the start of its step. The restart

@@ -5,28 +5,28 @@ ghost use Rattle.ckr_events.specs.declared.event.Event.{Event as EventOfDesk};
 ghost use Rattle.ckr_meaning.specs.EffectiveJob.{step_at, OwnedStep};
 ghost use Rattle.ckr_points.specs.Rows.{run_of, RunRow};
 ghost use Rattle.ckr_points_tables.specs.Selection.{prepared_for, HasLostRoom};
-ghost use Rattle.ckr_points_tables.specs.StepEnd.{HasPassedRoom};
+ghost use Rattle.ckr_points_runs.specs.StepEnd.{HasPassedRoom};
 ghost use Rattle.ckr_points_tables.specs.Invariant.{CanEnd, CanKeep, CanRestart, CanSelect, CanStart, HasRoom, HasRunRoom};
 ghost use Rattle.ckr_library.specs.Catalog.{KeepsEntryRoom};
-ghost use Rattle.ckr_points_tables.specs.Checkpoint.{checkpoint_name};
-ghost use Rattle.ckr_points_tables.specs.Needs.{step_now};
+ghost use Rattle.ckr_points_runs.specs.Checkpoint.{checkpoint_name};
+ghost use Rattle.ckr_points_runs.specs.Needs.{step_now};
 ghost use Rattle.ckr_points_tables.specs.Rooms.{dds_of, HasNoPlace, AreRoomier, EndsFit, EntryFits, FitsPoint, HasNoLess, IsRoomier, KeepsFit, StartsFit};
 ghost use Rattle.ckr_points_tables.specs.Restart.{passed_at_entry, passed_at_start, passed_for, HasPassedFor};
-ghost use Rattle.ckr_points_tables.specs.RunJobs.{effective, IsFitting};
-ghost use Rattle.ckr_points_tables.specs.View.{facts_of, room_of, written_of};
-ghost use Rattle.ckr_points_tables.specs.Start.{HasPointRoom};
+ghost use Rattle.ckr_points_runs.specs.RunJobs.{effective, IsFitting};
+ghost use Rattle.ckr_points_runs.specs.View.{facts_of, written_of};
+ghost use Rattle.ckr_points_tables.specs.View.{room_of};
+ghost use Rattle.ckr_points_runs.specs.Start.{HasPointRoom};
 
-use crate::checkpoint::checkpoint_name;
+use crate::Tables;
 use crate::continuation::continuation;
 use crate::restart::{entry_for, kept_under, passed_of};
-use crate::start::point_at;
-use crate::step_end::step_now;
-use crate::tables::Spare;
-use crate::{EffectiveJob, RunTable, Tables, WrittenEntries, step_at};
 use ckr_base::{CheckId, DsName, NoMemory};
 use ckr_entry::Passed;
 use ckr_events::Event;
 use ckr_library::Library;
+use ckr_points_runs::{
+    EffectiveJob, RunTable, Spare, WrittenEntries, checkpoint_name, point_at, step_at, step_now,
+};
 
 impl Tables {
     /// Takes the memory that an event needs. The tables stay the same in either case, and the room that is there stays.

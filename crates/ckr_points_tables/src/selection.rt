@@ -13,26 +13,27 @@ ghost use Rattle.ckr_points.specs.Restart.{after_event, without_names};
 ghost use Rattle.ckr_points.specs.Rows.{StartPoint, TableSet};
 ghost use Rattle.ckr_points.specs.Syschk.{names_its_set};
 ghost use Rattle.ckr_entry.specs.declared.point.Present.{Present as PresentInMark};
-ghost use Rattle.ckr_points_tables.specs.Invariant.{HasRoom, IsFilled, MayContinue, MayFollow};
-ghost use Rattle.ckr_points_tables.specs.PutBack.{all_made_gone, catalogs_back};
-ghost use Rattle.ckr_points_tables.specs.RunJobs.{effective, names_in, own_of, IsFitting};
-ghost use Rattle.ckr_points_tables.specs.RunMarks.{names_from, own_names_of};
+ghost use Rattle.ckr_points_tables.specs.Invariant.{HasRoom, MayContinue, MayFollow};
+ghost use Rattle.ckr_points_runs.specs.PutBack.{IsFilled};
+ghost use Rattle.ckr_points_runs.specs.PutBack.{all_made_gone, catalogs_back};
+ghost use Rattle.ckr_points_runs.specs.RunJobs.{effective, names_in, own_of, IsFitting};
+ghost use Rattle.ckr_points_runs.specs.RunMarks.{names_from, own_names_of};
 ghost use Rattle.ckr_points_tables.specs.Selection.{entries_in, lost_by, printed_names, resumed, sets_resumed, HasLostRoom, IsResumed, Resumption as ResumptionOfRun};
-ghost use Rattle.ckr_points_tables.specs.View.{facts_of, seen_by, table_of, written_of};
+ghost use Rattle.ckr_points_runs.specs.View.{facts_of, seen_by, table_of, written_of};
 
+use crate::Tables;
 use crate::continuation::resumption_for;
 use crate::event::put_at;
-use crate::made_names::{has_name, has_name_from};
-use crate::put_back::{delete_made, put_back_catalog, put_back_lengths};
 use crate::restart::go_on;
-use crate::run_marks::own_from;
-use crate::start::point_at;
-use crate::{EffectiveJob, LostNames, OwnStep, RunTable, Tables, WrittenEntries, step_at};
 use ckr_base::{CheckId, DsName};
 use ckr_entry::{Mark, Passed, Present};
 use ckr_jcl::{Dd, Job, Origin, Step};
 use ckr_library::{DataSet, Library, Stamp};
 use ckr_points::present_at;
+use ckr_points_runs::{
+    EffectiveJob, LostNames, OwnStep, RunTable, WrittenEntries, delete_made, has_name,
+    has_name_from, own_from, point_at, put_back_catalog, put_back_lengths, step_at,
+};
 use ckr_uses::{has_set_named, library_name};
 
 /// Whether the data set of a DD is for the printer.

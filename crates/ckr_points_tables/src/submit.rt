@@ -7,13 +7,12 @@ ghost use Rattle.ckr_points.specs.Syschk.{names_its_set};
 ghost use Rattle.ckr_uses.specs.Uses.{are_distinct};
 ghost use Rattle.ckr_meaning.specs.EffectiveJob.{is_among, name_of, names_of};
 ghost use Rattle.ckr_points_tables.specs.Invariant.{is_submittable};
-ghost use Rattle.ckr_points_tables.specs.Rewrite.{has_master, has_set};
-ghost use Rattle.ckr_points_tables.specs.View.{has_few_dds, has_few_serials, is_within_limits};
+ghost use Rattle.ckr_points_runs.specs.Rewrite.{has_master, has_set};
+ghost use Rattle.ckr_points_runs.specs.RunJobs.{has_few_dds, has_few_serials, is_within_limits};
 
-use crate::made_names::is_any_named;
-use crate::rewrite::master_dd;
 use ckr_jcl::{Dd, Job, Kind, Origin, Step};
 use ckr_points::syschk_name;
+use ckr_points_runs::{is_any_named, master_dd};
 use ckr_uses::library_name;
 
 /// Whether a deck may be submitted under a number: the number has at most seven digits, there are at most 64 steps of at most 16

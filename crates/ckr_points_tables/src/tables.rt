@@ -1,5 +1,5 @@
 //! The tables of the desk.
-ghost use Rattle.std.specs.Prelude.{◌≡◌, ℕ, ◌≤◌, ◌<◌, [], Bool, Some, IsTrue, OnOk, IsOk, ◌-◌, drop, length, map, replicate, slice_get, take, true};
+ghost use Rattle.std.specs.Prelude.{◌≡◌, ℕ, ◌≤◌, ◌<◌, [], Bool, Some, IsTrue, OnOk, IsOk, ◌-◌, drop, length, map, replicate, take, true};
 ghost use Rattle.std.specs.List.{list_all};
 ghost use Rattle.std.specs.Option.{option_copied, option_map};
 ghost use Rattle.ckr_library.specs.NameMaps.{EachEntry};
@@ -8,29 +8,17 @@ ghost use Rattle.ckr_points.specs.declared.run.Run.{Run as LineOfRun};
 ghost use Rattle.ckr_points.specs.declared.run.RunState.TheVariants.{Queued as QueuedRun};
 ghost use Rattle.ckr_points_tables.specs.BegunRuns.{is_over, AreEnded, AreWaiting};
 ghost use Rattle.ckr_points_tables.specs.RunRows.{IsRunRow};
-ghost use Rattle.ckr_points_tables.specs.View.{facts_in, facts_of, line_of, place_of, run_on, seen_by};
+ghost use Rattle.ckr_points_tables.specs.View.{facts_in, line_of, run_on};
+ghost use Rattle.ckr_points_runs.specs.View.{facts_of, seen_by};
 
 use crate::begun_runs::lines_between;
-use crate::marks_in_order::MarksInOrder;
-use crate::{RunTable, WrittenEntries};
 use ckr_base::NoMemory;
 use ckr_entry::{Marks, PassedList};
 use ckr_library::Library;
 use ckr_points::Run;
+use ckr_points_runs::{MarksInOrder, RunTable, Spare, WrittenEntries, place_of, table_at};
 use std::alloc::Global;
 use std::marker::Model;
-
-/// What a step point is made of, so that its making takes no memory.
-#[derive(Drop)]
-pub(crate) struct Spare {
-    pub(crate) alloc: Global,
-    /// Where the marks are put in order.
-    pub(crate) sorted: MarksInOrder,
-    pub(crate) marks: Marks,
-    pub(crate) passed: PassedList,
-    /// A run as it goes on that continues another one, made before it is selected.
-    pub(crate) next: Option<RunTable>,
-}
 
 /// The tables of the desk: its data sets, and its runs in the order of their numbers.
 #[derive(Drop)]
@@ -133,27 +121,9 @@ impl Tables {
     }
 }
 
-/// The run table at a place.
-pub(crate) fn table_at(tables: &[RunTable], place: usize) -> Option<&RunTable>
-    ensures { option_copied result ≡ slice_get tables.now place }
-{
-    tables.get(place)
-}
-
 /// No run on any initiator.
 fn no_runs_on() -> [u32; 256]
     ensures { result ≡ replicate 256 0 }
 {
     [0; 256]
-}
-
-/// The place of a run by its number.
-pub(crate) fn place_of(job: u32) -> Option<usize>
-    ensures { result ≡ place_of job }
-{
-    if job == 0 {
-        None
-    } else {
-        Some(job as usize - 1)
-    }
 }

@@ -18,8 +18,8 @@ use Rattle.ckr_points.specs.declared.run.Run.{Run}
 use Rattle.ckr_points_tables.specs.RunRows.{IsRunRow}
 use Rattle.ckr_points_tables.specs.RunJobs.{IsFitting, effective}
 use Rattle.ckr_points_tables.specs.View.{RunTableView, effect_of, facts_in, facts_of, job_in, line_of, row_with, seen_by}
-use Rattle.ckr_points_tables.specs.declared.run_table.InEffect.{InEffect}
-use Rattle.ckr_points_tables.specs.declared.run_table.RunTable.{RunTable}
+use Rattle.ckr_points_tables.specs.Model.InEffect.{InEffect}
+use Rattle.ckr_points_tables.specs.Model.RunTable.{RunTable}
 use Rattle.ckr_desk_refines.specs.EntryRefusal.{fault_in, is_of_run}
 use Rattle.ckr_steps.specs.EntryRecords.{bytes_on}
 use Rattle.ckr_volumes.specs.declared.layout.Layout.{Layout}

@@ -14,8 +14,8 @@ use Rattle.ckr_points.specs.declared.run.RunState.TheVariants.{On}
 use Rattle.ckr_points.specs.Follows.{is_in_state, of_run, own_step}
 use Rattle.ckr_points.specs.Restart.{place_of, step_in}
 use Rattle.ckr_points.specs.Rows.{RunRow, TableSet, TablesModel, holding_of, run_of, step_of_run}
-use Rattle.ckr_points_tables.specs.declared.run_table.RunTable.{RunTable}
-use Rattle.ckr_points_tables.specs.declared.own_step.OwnStep.{OwnStep}
+use Rattle.ckr_points_tables.specs.Model.RunTable.{RunTable}
+use Rattle.ckr_points_tables.specs.Model.OwnStep.{OwnStep}
 use Rattle.ckr_points_tables.specs.RunJobs.{own_of}
 use Rattle.ckr_points_tables.specs.View.{seen_by}
 use Rattle.ckr_steps.specs.declared.step_run.StepRun.{StepRun}

@@ -21,8 +21,8 @@ use Rattle.ckr_points.specs.Restart.{place_of, step_in}
 use Rattle.ckr_points.specs.Rows.{RunRow, TablesModel, run_of, step_of_run}
 use Rattle.ckr_desk_turn.specs.DeckLimits.{IsWithinLimits}
 use Rattle.ckr_desk_turn.proofs.Decks.DeckLimits.{steps_within}
-use Rattle.ckr_points_tables.specs.declared.own_step.OwnStep.{OwnStep}
-use Rattle.ckr_points_tables.specs.declared.run_table.RunTable.{RunTable}
+use Rattle.ckr_points_tables.specs.Model.OwnStep.{OwnStep}
+use Rattle.ckr_points_tables.specs.Model.RunTable.{RunTable}
 use Rattle.ckr_points_tables.specs.RunJobs.{effective, own_of}
 use Rattle.ckr_points_tables.proofs.RunJobs.{fits-at}
 use Rattle.ckr_points_tables.specs.Invariant.{HasRoom}

@@ -10,7 +10,7 @@ use Rattle.ckr_meaning.specs.EffectiveJob.{OwnedStep, flaws_in, names_of}
 use Rattle.ckr_meaning.specs.SetUses.Uses.{are_distinct}
 use Rattle.ckr_points.specs.Follows.{are_made_clear, is_empty, is_part_whole, made_dds}
 use Rattle.ckr_points.specs.Rows.{TableSet, TablesModel}
-use Rattle.ckr_points_tables.specs.declared.run_table.RunTable.{RunTable}
+use Rattle.ckr_points_tables.specs.Model.RunTable.{RunTable}
 use Rattle.ckr_volumes.specs.declared.layout.Layout.{Layout}
 use Rattle.ckr_points_clearance.specs.Placements.{are_clear_beside}
 use Rattle.ckr_points_clearance.specs.Start.{makes_items, placed_for, standing_now}

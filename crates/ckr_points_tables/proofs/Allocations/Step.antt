@@ -14,11 +14,12 @@ use Rattle.ckr_points.specs.declared.run.Run.{Run}
 use Rattle.ckr_points.specs.Rows.{RunRow, TableSet, TablesModel, holding_of, run_of, step_of_run, table_ways}
 use Rattle.ckr_volumes.specs.declared.layout.Layout.{Layout}
 use Rattle.ckr_volumes.specs.Layouts.{StandsIn}
-use Rattle.ckr_points_tables.specs.declared.run_table.RunTable.{RunTable}
+use Rattle.ckr_points_runs.specs.declared.run_table.RunTable.{RunTable}
 use Rattle.ckr_points_tables.specs.Allocation.{HasFitting, IsAllocation, MayAllocate, allocation_in}
 use Rattle.ckr_points_tables.specs.Invariant.{AreRuns}
-use Rattle.ckr_points_tables.specs.RunJobs.{effective}
-use Rattle.ckr_points_tables.specs.View.{Writings, row_of, rows_of, seen_by, seen_under, table_in}
+use Rattle.ckr_points_runs.specs.RunJobs.{effective}
+use Rattle.ckr_points_tables.specs.View.{Writings, row_of, rows_of, seen_under, table_in}
+use Rattle.ckr_points_runs.specs.View.{seen_by}
 use Rattle.ckr_points_tables.proofs.RoomGrowth.{distinct_there, found_there, line_there, numbered_there}
 use Rattle.ckr_points_tables.proofs.SetViews.{held-back, table_view}
 

@@ -19,16 +19,19 @@ use Rattle.ckr_points.specs.Follows.{is_free, is_in_state, is_running, may_resta
 use Rattle.ckr_points.specs.Restart.{after_event, after_restarted, by_step}
 use Rattle.ckr_points.specs.Rows.{EffectPoint, RunRow, StartPoint, TablesModel, run_of}
 use Rattle.ckr_volumes.specs.declared.layout.Layout.{Layout}
-use Rattle.ckr_points_tables.specs.declared.run_table.RunTable.{RunTable}
+use Rattle.ckr_points_runs.specs.declared.run_table.RunTable.{RunTable}
 use Rattle.ckr_points_tables.specs.declared.tables.Tables.TheInside.{Inside}
-use Rattle.ckr_points_tables.specs.Invariant.{AreKept, CanRestart, IsFilled, IsIndexOf, IsWide, MayFollow, initiator_at, put_at, room_at}
+use Rattle.ckr_points_tables.specs.Invariant.{AreKept, CanRestart, IsIndexOf, IsWide, MayFollow, initiator_at, put_at, room_at}
+use Rattle.ckr_points_runs.specs.PutBack.{IsFilled}
 use Rattle.ckr_points_tables.specs.Parts.{tables_seen, IsKept}
 use Rattle.ckr_points_tables.specs.Restart.{HasFewRestarts, HasPassedFor, passed_for, restarted}
-use Rattle.ckr_points_tables.specs.RunChange.{Going, desk_with, going}
-use Rattle.ckr_points_tables.specs.RunJobs.{IsFitting, effective}
-use Rattle.ckr_points_tables.specs.View.{RoomyTables, RunTableView, Writings, facts_of, room_of, row_of, row_with, rows_of, seen_under, table_in, written_of}
+use Rattle.ckr_points_runs.specs.RunChange.{Going, desk_with, going}
+use Rattle.ckr_points_runs.specs.RunJobs.{IsFitting, effective}
+use Rattle.ckr_points_tables.specs.View.{RoomyTables, Writings, room_of, row_of, rows_of, seen_under, table_in}
+use Rattle.ckr_points_runs.specs.View.{RunTableView, facts_of, row_with, written_of}
 use Rattle.ckr_points_tables.proofs.Events.{none_on}
-use Rattle.ckr_points_tables.proofs.PutBack.{cut-back-filled, cut-back-wide}
+use Rattle.ckr_points_runs.proofs.PutBack.{cut-back-filled}
+use Rattle.ckr_points_tables.proofs.PutBack.{cut-back-wide}
 use Rattle.ckr_points_tables.proofs.RecordWidths.{AreFilled, AreWide}
 use Rattle.ckr_points_tables.proofs.Restarts.Views.{IsLeft, passed-there, restarted-each, restarted-left, restarted-row}
 use Rattle.ckr_points_tables.proofs.RunChanges.{run-in}

@@ -9,8 +9,8 @@ use Rattle.ckr_entry.specs.declared.point.Passed.{Passed}
 use Rattle.ckr_library.specs.Catalog.{Holding}
 use Rattle.ckr_library.specs.NameMaps.{Name, Named}
 use Rattle.ckr_library.specs.declared.sets.Kept.{Kept}
-use Rattle.ckr_points_tables.specs.declared.run_table.StepPoint.{StepPoint}
-use Rattle.ckr_points_tables.specs.declared.run_table.WrittenEntry.{WrittenEntry}
+use Rattle.ckr_points_runs.specs.declared.run_table.StepPoint.{StepPoint}
+use Rattle.ckr_points_runs.specs.declared.run_table.WrittenEntry.{WrittenEntry}
 use Rattle.ckr_meaning.specs.EffectiveJob.{OwnedStep, names_of, step_at}
 use Rattle.ckr_meaning.specs.declared.place.Place.TheVariants.{Opened, Within}
 use Rattle.ckr_points.specs.declared.run.Run.{Run}
@@ -18,12 +18,13 @@ use Rattle.ckr_points.specs.Marks.{point_at, with_point}
 use Rattle.ckr_points.specs.Restart.{effect_restarted, point_restarted}
 use Rattle.ckr_points.specs.Rows.{EffectPoint, EntryPoint, StartPoint}
 use Rattle.ckr_points_library.specs.Commit.{output_names}
-use Rattle.ckr_points_tables.specs.PutBack.{all_made_gone, sets_back}
+use Rattle.ckr_points_runs.specs.PutBack.{all_made_gone, sets_back}
 use Rattle.ckr_points_tables.specs.Restart.{back_at_entry, back_at_start, check_restarted, effect_restart, facts_back, kept_under, line_on, point_written, step_restarted}
-use Rattle.ckr_points_tables.specs.RunChange.{Going, by_step_of, going, step_of}
-use Rattle.ckr_points_tables.specs.RunJobs.{effective}
-use Rattle.ckr_points_tables.specs.View.{RunTableView, Writing, Writings, find_last, is_entry, no_point, point_for, point_of, writing_of, written_by, written_of}
-use Rattle.ckr_points_tables.proofs.Steps.{point-mapped}
+use Rattle.ckr_points_runs.specs.RunChange.{Going, by_step_of, going, step_of}
+use Rattle.ckr_points_runs.specs.RunJobs.{effective}
+use Rattle.ckr_points_runs.specs.View.{RunTableView, Writing, point_of, writing_of, written_of}
+use Rattle.ckr_points_tables.specs.View.{Writings, find_last, is_entry, no_point, point_for, written_by}
+use Rattle.ckr_points_runs.proofs.Steps.{point-mapped}
 
 -- where there is no point of the step, nothing changes
 pub start-without-point : (now : Going Holding) (step initiator : ℕ) (own : OwnedStep) → step_of now step ≡ Some own → point_at now.facts.points step ≡ None → now ≡ by_step_of step (step_restarted initiator step now) now

@@ -15,10 +15,11 @@ use Rattle.ckr_points.specs.Rows.{EffectPoint, EntryPoint, KeptEntry, RunRow, St
 use Rattle.ckr_points.specs.Tables.{kept_entry}
 use Rattle.ckr_points_library.specs.Commit.{output_names}
 use Rattle.ckr_points_tables.specs.Invariant.{is_queued, passed_back_at}
-use Rattle.ckr_points_tables.specs.PutBack.{all_made_gone, cut_back}
+use Rattle.ckr_points_runs.specs.PutBack.{all_made_gone, cut_back}
 use Rattle.ckr_points_tables.specs.Restart.{back_at_entry, back_at_start, check_restarted, effect_restart, kept_under, passed_at_entry, passed_for, point_under, restarted, sets_at_entry, sets_at_start, step_restarted}
-use Rattle.ckr_points_tables.specs.RunChange.{Going, by_step_of, desk_with, going, place_now, step_of}
-use Rattle.ckr_points_tables.specs.View.{RunTableView, Writings, point_for, row_with, table_in}
+use Rattle.ckr_points_runs.specs.RunChange.{Going, by_step_of, desk_with, going, place_now, step_of}
+use Rattle.ckr_points_runs.specs.View.{RunTableView, row_with}
+use Rattle.ckr_points_tables.specs.View.{Writings, point_for, table_in}
 use Rattle.ckr_points_tables.proofs.NamedViews.{at-viewed, viewed}
 use Rattle.ckr_points_tables.proofs.PutBack.{back-each, back-seen, gone-each, gone-seen}
 use Rattle.ckr_points_tables.proofs.RunChanges.{unchanged-in}

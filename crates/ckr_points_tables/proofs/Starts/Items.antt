@@ -27,10 +27,10 @@ use Rattle.ckr_meaning.specs.EffectiveJob.{OwnedStep, is_among, name_of, placed_
 use Rattle.ckr_volumes.specs.declared.layout.Layout.{Layout}
 use Rattle.ckr_points.specs.Tables.{made_table, made_tables, part_of, parts_from}
 use Rattle.ckr_points.specs.Follows.{are_made_clear, is_made_clear, is_part_whole, lies_clear, made_dds, part_numbers, stands_in}
-use Rattle.ckr_points_tables.specs.NewSets.{has_items, items_for, made_from, made_named, made_one, HasRecords, MayMakeAll, MayMakeNamed}
+use Rattle.ckr_points_runs.specs.NewSets.{has_items, items_for, made_from, made_named, made_one, HasRecords, MayMakeAll, MayMakeNamed}
 use Rattle.ckr_points.specs.Rows.{TableSet, table_ways}
-use Rattle.ckr_points_tables.specs.View.{has_few_serials}
-use Rattle.ckr_points_tables.specs.RunChange.{table_kit}
+use Rattle.ckr_points_runs.specs.RunJobs.{has_few_serials}
+use Rattle.ckr_points_runs.specs.RunChange.{table_kit}
 use Rattle.ckr_points_library.specs.Allocation.{fresh_set}
 
 -- ---- tests

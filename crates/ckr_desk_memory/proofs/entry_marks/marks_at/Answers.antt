@@ -1,7 +1,7 @@
 use Rattle.std.proofs.Common.{◌==◌, [], ap, find, ◌∙◌, Option}
 use Rattle.std.specs.Option.{option_map_or}
 use Rattle.ckr_points.specs.Rows.{StartPoint}
-use Rattle.ckr_points_tables.specs.declared.run_table.StepPoint.{StepPoint}
+use Rattle.ckr_points_tables.specs.Model.StepPoint.{StepPoint}
 use Rattle.ckr_points_tables.proofs.Steps.{found-mapped}
 use Rattle.ckr_desk_memory.proofs.entry_marks.marks_at.Goals as goal
 

@@ -1,5 +1,5 @@
 use Rattle.std.proofs.Common.{◌==◌, ap, ◌∙◌, find, Some, None}
-use Rattle.ckr_points_tables.specs.declared.run_table.StepPoint.{StepPoint}
+use Rattle.ckr_points_tables.specs.Model.StepPoint.{StepPoint}
 use Rattle.ckr_desk_memory.proofs.RuleCases.{since-found}
 use Rattle.ckr_desk_memory.proofs.run_code.since_start.Goals as goal
 

@@ -4,7 +4,7 @@ use Rattle.ckr_points.specs.Marks.{point_at}
 use Rattle.ckr_points.specs.Restart.{step_in}
 use Rattle.ckr_points.specs.Rows.{StartPoint}
 use Rattle.ckr_points_tables.specs.View.{point_of}
-use Rattle.ckr_points_tables.specs.declared.run_table.StepPoint.{StepPoint}
+use Rattle.ckr_points_tables.specs.Model.StepPoint.{StepPoint}
 use Rattle.ckr_points_tables.proofs.Steps.{found-mapped}
 use Rattle.ckr_points_follows.proofs.restart.may_restart_at_start.Goals as goal
 

@@ -9,7 +9,7 @@ use Rattle.ckr_library.specs.Catalog.{Holding}
 use Rattle.ckr_library.specs.NameMaps.{EachEntry}
 use Rattle.ckr_meaning.specs.EffectiveJob.{placed_in, stamp_of}
 use Rattle.ckr_volumes.specs.Layouts.{StandsIn}
-use Rattle.ckr_points_tables.specs.RunJobs.{own_of}
+use Rattle.ckr_points_runs.specs.RunJobs.{own_of}
 use Rattle.ckr_points_tables.specs.Allocation.{IsFromOne}
 use Rattle.ckr_points_tables.proofs.Allocations.Parts.{items-small}
 use Rattle.ckr_points_tables.proofs.allocation.allocate_own.Goals as goal

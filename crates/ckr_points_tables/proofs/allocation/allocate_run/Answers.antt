@@ -3,8 +3,8 @@ use Rattle.std.specs.Bool.{IsTrue}
 use Rattle.ckr_uses.specs.Uses.{are_distinct}
 use Rattle.ckr_meaning.specs.EffectiveJob.{OwnedStep, names_of}
 use Rattle.ckr_points_tables.specs.Allocation.{HasFitting}
-use Rattle.ckr_points_tables.specs.RunJobs.{effective, own_of}
-use Rattle.ckr_points_tables.proofs.RunJobs.{step-all}
+use Rattle.ckr_points_runs.specs.RunJobs.{effective, own_of}
+use Rattle.ckr_points_runs.proofs.RunJobs.{step-all}
 use Rattle.ckr_points_tables.proofs.allocation.allocate_run.Goals as goal
 
 pub allocate_own-requires-clause-dds : goal.allocate_own-requires-clause-dds

@@ -1,6 +1,6 @@
 use Rattle.std.proofs.Common.{length, ap, arith}
-use Rattle.ckr_points_tables.proofs.Steps.{names-most}
-use Rattle.ckr_points_tables.specs.RunJobs.{effective}
+use Rattle.ckr_points_tables.proofs.DdCounts.{names-most}
+use Rattle.ckr_points_runs.specs.RunJobs.{effective}
 use Rattle.ckr_points_tables.proofs.continuation.carried_marks.Goals as goal
 
 pub mark_job-requires-clause-room : goal.mark_job-requires-clause-room

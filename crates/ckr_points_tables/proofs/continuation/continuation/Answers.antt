@@ -5,13 +5,13 @@ use Rattle.ckr_meaning.specs.EffectiveJob.{step_at}
 use Rattle.ckr_meaning.specs.JobRun.{StepCodes}
 use Rattle.ckr_points.specs.Marks.{mark_now, point_at}
 use Rattle.ckr_points.specs.Restart.{rcs_before}
-use Rattle.ckr_points_tables.specs.RunJobs.{IsFitting, JobView, continued_view, effective}
+use Rattle.ckr_points_runs.specs.RunJobs.{IsFitting, JobView, continued_view, effective}
 use Rattle.ckr_points_tables.specs.Selection.{begun_facts, entries_in, resumed, resumption_of}
-use Rattle.ckr_points_tables.specs.View.{code_of, facts_of, point_of, seen_by, table_of, written_of}
+use Rattle.ckr_points_runs.specs.View.{code_of, facts_of, point_of, seen_by, table_of, written_of}
 use Rattle.ckr_points_tables.proofs.ContinuedRuns.{continued-fits}
 use Rattle.ckr_points_tables.proofs.Preparations.{prepared-entryless, prepared-pointless, prepared-so}
 use Rattle.ckr_points_tables.proofs.continuation.continuation.Goals as goal
-use Rattle.ckr_points_tables.proofs.Steps.{point-mapped}
+use Rattle.ckr_points_runs.proofs.Steps.{point-mapped}
 
 pub returns-in_default-clause-facts : goal.returns-in_default-clause-facts
 returns-in_default-clause-facts c =

@@ -1,6 +1,7 @@
 use Rattle.std.proofs.Common.{ap, sym, ◌∙◌, map}
 use Rattle.std.specs.Option.{option_copied}
-use Rattle.ckr_points_tables.specs.View.{find_last, is_entry, writing_of}
+use Rattle.ckr_points_tables.specs.View.{find_last, is_entry}
+use Rattle.ckr_points_runs.specs.View.{writing_of}
 use Rattle.ckr_points_tables.proofs.Restarts.Pieces.{entry-absent, entry-there}
 use Rattle.ckr_points_tables.proofs.restart.entry_for.Goals as goal
 

@@ -1,8 +1,8 @@
 use Rattle.std.proofs.Common.{◌≡◌, Some, map, ap, sym, ◌∙◌}
 use Rattle.std.specs.Option.{option_copied, option_map}
 use Rattle.ckr_points_tables.specs.Restart.{point_written}
-use Rattle.ckr_points_tables.specs.RunChange.{going}
-use Rattle.ckr_points_tables.specs.View.{effect_of, facts_of, written_of}
+use Rattle.ckr_points_runs.specs.RunChange.{going}
+use Rattle.ckr_points_runs.specs.View.{effect_of, facts_of, written_of}
 use Rattle.ckr_points_tables.proofs.Restarts.Pieces.{entry-with-kept}
 use Rattle.ckr_points_tables.proofs.restart.restart_at_entry.Goals as goal
 

@@ -3,9 +3,9 @@ use Rattle.std.specs.Option.{option_copied}
 use Rattle.ckr_points_tables.specs.Restart.{point_written}
 use Rattle.ckr_meaning.specs.EffectiveJob.{names_of}
 use Rattle.ckr_points_library.specs.Commit.{output_names}
-use Rattle.ckr_points_tables.specs.PutBack.{sets_back}
-use Rattle.ckr_points_tables.specs.RunJobs.{own_of}
-use Rattle.ckr_points_tables.specs.View.{facts_of}
+use Rattle.ckr_points_runs.specs.PutBack.{sets_back}
+use Rattle.ckr_points_runs.specs.RunJobs.{own_of}
+use Rattle.ckr_points_runs.specs.View.{facts_of}
 use Rattle.ckr_points_tables.proofs.Restarts.Pieces.{entry-built}
 use Rattle.ckr_points_tables.proofs.restart.restart_at_point.Goals as goal
 

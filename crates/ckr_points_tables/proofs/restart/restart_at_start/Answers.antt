@@ -4,13 +4,14 @@ use Rattle.ckr_library.specs.NameMaps.{EachEntry}
 use Rattle.ckr_meaning.specs.EffectiveJob.{names_of}
 use Rattle.ckr_points.specs.Rows.{StartPoint}
 use Rattle.ckr_points_library.specs.Commit.{output_names}
-use Rattle.ckr_points_tables.specs.Invariant.{IsFilled}
+use Rattle.ckr_points_runs.specs.PutBack.{IsFilled}
 use Rattle.ckr_points_tables.specs.Restart.{HasPassedFor}
-use Rattle.ckr_points_tables.specs.RunChange.{going}
-use Rattle.ckr_points_tables.specs.PutBack.{all_made_gone, sets_back}
-use Rattle.ckr_points_tables.specs.RunJobs.{own_of}
-use Rattle.ckr_points_tables.specs.View.{facts_of, point_of}
-use Rattle.ckr_points_tables.proofs.PutBack.{cut-back-filled, gone-each}
+use Rattle.ckr_points_runs.specs.RunChange.{going}
+use Rattle.ckr_points_runs.specs.PutBack.{all_made_gone, sets_back}
+use Rattle.ckr_points_runs.specs.RunJobs.{own_of}
+use Rattle.ckr_points_runs.specs.View.{facts_of, point_of}
+use Rattle.ckr_points_runs.proofs.PutBack.{cut-back-filled}
+use Rattle.ckr_points_tables.proofs.PutBack.{gone-each}
 use Rattle.ckr_points_tables.proofs.Restarts.Pieces.{point-found, point-lost, start-built, start-without-point}
 use Rattle.ckr_points_tables.proofs.restart.restart_at_start.Goals as goal
 

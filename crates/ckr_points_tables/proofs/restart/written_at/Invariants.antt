@@ -1,6 +1,7 @@
 use Rattle.std.proofs.Common.{◌≡◌, drop, map}
 use Rattle.std.specs.Option.{option_copied, option_map}
-use Rattle.ckr_points_tables.specs.View.{find_last, is_entry, later_or, writing_of}
+use Rattle.ckr_points_tables.specs.View.{find_last, is_entry, later_or}
+use Rattle.ckr_points_runs.specs.View.{writing_of}
 use Rattle.ckr_points_tables.proofs.restart.written_at.Given as goal
 
 abbrev pub invariant-loop-entry : goal.invariant-loop-entry

@@ -1,9 +1,9 @@
 use Rattle.std.proofs.Common.{◌<◌, ◌+◌, ap, length, arith}
 use Rattle.std.proofs.lemmas.List.{drop_all}
 use Rattle.ckr_points_tables.specs.Rooms.{dds_of}
-use Rattle.ckr_points_tables.specs.RunJobs.{effective}
-use Rattle.ckr_points_tables.proofs.RunJobs.{dds-next}
-use Rattle.ckr_points_tables.proofs.Steps.{dds-most}
+use Rattle.ckr_points_runs.specs.RunJobs.{effective}
+use Rattle.ckr_points_tables.proofs.DdCounts.{dds-next}
+use Rattle.ckr_points_tables.proofs.DdCounts.{dds-most}
 use Rattle.ckr_points_tables.proofs.rooms.dds_of.Goals as goal
 
 pub overflow_add-count : goal.overflow_add-count

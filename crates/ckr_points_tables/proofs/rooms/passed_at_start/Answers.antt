@@ -2,7 +2,7 @@ use Rattle.std.proofs.Common.{length, map, ap, sym, ◌∙◌}
 use Rattle.std.specs.Option.{option_map, option_map_or}
 use Rattle.ckr_points.specs.Rows.{StartPoint}
 use Rattle.ckr_points_tables.specs.Restart.{passed_at_start}
-use Rattle.ckr_points_tables.specs.View.{point_of}
+use Rattle.ckr_points_runs.specs.View.{point_of}
 use Rattle.ckr_points_tables.proofs.Restarts.Pieces.{point-found, point-lost}
 use Rattle.ckr_points_tables.proofs.rooms.passed_at_start.Goals as goal
 

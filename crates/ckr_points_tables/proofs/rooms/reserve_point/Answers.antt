@@ -1,6 +1,6 @@
 use Rattle.std.proofs.Common.{arith}
-use Rattle.ckr_points_tables.specs.RunJobs.{effective}
-use Rattle.ckr_points_tables.proofs.Steps.{names-most}
+use Rattle.ckr_points_runs.specs.RunJobs.{effective}
+use Rattle.ckr_points_tables.proofs.DdCounts.{names-most}
 use Rattle.ckr_points_tables.proofs.rooms.reserve_point.Goals as goal
 
 pub returns-clause-ok : goal.returns-clause-ok

@@ -3,8 +3,8 @@ use Rattle.std.specs.List.{filter_map}
 use Rattle.ckr_jcl.specs.declared.deck.Dd.{Dd}
 use Rattle.ckr_meaning.specs.EffectiveJob.{name_of}
 use Rattle.ckr_points.specs.Marks.{is_sysout}
-use Rattle.ckr_points_tables.specs.RunJobs.{own_of}
-use Rattle.ckr_points_tables.specs.PutBack.{all_made_gone}
+use Rattle.ckr_points_runs.specs.RunJobs.{own_of}
+use Rattle.ckr_points_runs.specs.PutBack.{all_made_gone}
 use Rattle.ckr_points_tables.proofs.selection.delete_printed.Given as goal
 
 abbrev pub invariant-loop-dd : goal.invariant-loop-dd

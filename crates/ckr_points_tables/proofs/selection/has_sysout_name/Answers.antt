@@ -6,7 +6,7 @@ use Rattle.ckr_library.specs.NameMaps.{same_name}
 use Rattle.ckr_points.specs.Marks.{is_sysout}
 use Rattle.ckr_meaning.specs.EffectiveJob.{name_of}
 use Rattle.ckr_points.proofs.StepNames.{among-kept}
-use Rattle.ckr_points_tables.specs.RunJobs.{own_of}
+use Rattle.ckr_points_runs.specs.RunJobs.{own_of}
 use Rattle.ckr_points_tables.proofs.selection.has_sysout_name.Goals as goal
 
 pub returns : goal.returns

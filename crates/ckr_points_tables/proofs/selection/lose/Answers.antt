@@ -2,9 +2,9 @@ use Rattle.std.proofs.Common.{rules, ◌≡◌, ◌+◌, ◌++◌, ◌∷◌, []
 use Rattle.std.proofs.lemmas.List.{length-drop, take_more}
 use Rattle.ckr_entry.specs.declared.point.Passed.{Passed}
 use Rattle.ckr_points.specs.Marks.{deck_names, still_exists}
-use Rattle.ckr_points_tables.specs.RunMarks.{own_names_of}
+use Rattle.ckr_points_runs.specs.RunMarks.{own_names_of}
 use Rattle.ckr_points_tables.specs.Selection.{lost_by}
-use Rattle.ckr_points_tables.specs.View.{seen_by, table_of}
+use Rattle.ckr_points_runs.specs.View.{seen_by, table_of}
 use Rattle.ckr_points_tables.proofs.Selections.{lost-kept, lost-more}
 use Rattle.ckr_points_tables.proofs.selection.lose.Goals as goal
 use Rattle.ckr_points_tables.proofs.selection.lose.Goals.{else-not-still_exists, then-not-still_exists}

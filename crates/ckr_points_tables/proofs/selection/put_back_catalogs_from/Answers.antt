@@ -3,8 +3,8 @@ use Rattle.std.proofs.lemmas.List.{drop_all}
 use Rattle.std.specs.Option.{option_copied, option_map}
 use Rattle.ckr_meaning.specs.EffectiveJob.{names_of_steps}
 use Rattle.ckr_points.specs.Restart.{without_names}
-use Rattle.ckr_points_tables.specs.PutBack.{catalogs_back}
-use Rattle.ckr_points_tables.specs.RunJobs.{effective, own_of}
+use Rattle.ckr_points_runs.specs.PutBack.{catalogs_back}
+use Rattle.ckr_points_runs.specs.RunJobs.{effective, own_of}
 use Rattle.ckr_points_tables.specs.Selection.{printed_names}
 use Rattle.ckr_points_tables.proofs.Selections.{catalogs-next}
 use Rattle.ckr_points_tables.proofs.selection.put_back_catalogs_from.Goals as goal

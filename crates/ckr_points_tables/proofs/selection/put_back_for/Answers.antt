@@ -3,12 +3,13 @@ use Rattle.ckr_library.specs.NameMaps.{EachEntry}
 use Rattle.ckr_points.specs.Marks.{sysout_names}
 use Rattle.ckr_points.specs.Restart.{without_names}
 use Rattle.ckr_points_library.specs.Commit.{output_names}
-use Rattle.ckr_points_tables.specs.Invariant.{IsFilled}
-use Rattle.ckr_points_tables.specs.PutBack.{all_made_gone, catalogs_back, lengths_back}
-use Rattle.ckr_points_tables.specs.RunJobs.{own_of}
-use Rattle.ckr_points_tables.specs.RunMarks.{names_from}
+use Rattle.ckr_points_runs.specs.PutBack.{IsFilled}
+use Rattle.ckr_points_runs.specs.PutBack.{all_made_gone, catalogs_back, lengths_back}
+use Rattle.ckr_points_runs.specs.RunJobs.{own_of}
+use Rattle.ckr_points_runs.specs.RunMarks.{names_from}
 use Rattle.ckr_points_tables.specs.Selection.{printed_names, sets_resumed}
-use Rattle.ckr_points_tables.proofs.PutBack.{cut-back-filled, gone-each}
+use Rattle.ckr_points_runs.proofs.PutBack.{cut-back-filled}
+use Rattle.ckr_points_tables.proofs.PutBack.{gone-each}
 use Rattle.ckr_points_tables.proofs.selection.put_back_for.Goals as goal
 
 pub put_back_lengths-requires-clause-filled : goal.put_back_lengths-requires-clause-filled

@@ -3,8 +3,8 @@ use Rattle.std.specs.List.{filter_map}
 use Rattle.std.specs.Option.{option_copied, option_map}
 use Rattle.ckr_meaning.specs.EffectiveJob.{name_of}
 use Rattle.ckr_points.specs.Restart.{without_names}
-use Rattle.ckr_points_tables.specs.RunJobs.{own_of}
-use Rattle.ckr_points_tables.specs.PutBack.{catalogs_back}
+use Rattle.ckr_points_runs.specs.RunJobs.{own_of}
+use Rattle.ckr_points_runs.specs.PutBack.{catalogs_back}
 use Rattle.ckr_points_tables.specs.Selection.{printed_names}
 use Rattle.ckr_points_tables.proofs.selection.put_back_step.Given as goal
 

@@ -4,11 +4,11 @@ use Rattle.std.proofs.lemmas.Option.{same_Some}
 use Rattle.ckr_base.proofs.Options.{some-not-none}
 use Rattle.ckr_jcl.specs.declared.deck.Job.{Job}
 use Rattle.ckr_points.specs.Marks.{point_at}
-use Rattle.ckr_points_tables.specs.RunJobs.{own_of}
+use Rattle.ckr_points_runs.specs.RunJobs.{own_of}
 use Rattle.ckr_points_tables.specs.Selection.{Resumption, entries_in, lost_by, resumed, resumption_of, sets_resumed}
-use Rattle.ckr_points_tables.specs.View.{facts_of, point_of, written_of}
+use Rattle.ckr_points_runs.specs.View.{facts_of, point_of, written_of}
 use Rattle.ckr_points_tables.proofs.selection.resume.Goals as goal
-use Rattle.ckr_points_tables.proofs.Steps.{point-mapped}
+use Rattle.ckr_points_runs.proofs.Steps.{point-mapped}
 
 twice : (b : Bool) → not (not b) ≡ b
 twice true = refl

@@ -3,7 +3,7 @@ use Rattle.std.specs.Option.{option_map_or}
 use Rattle.std.specs.List.{filter_map}
 use Rattle.ckr_points_library.specs.Holdings.{owned}
 use Rattle.ckr_meaning.specs.EffectiveJob.{is_among, name_of}
-use Rattle.ckr_points_tables.proofs.Steps.{any-among}
+use Rattle.ckr_points_runs.proofs.Steps.{any-among}
 use Rattle.ckr_points_tables.proofs.submit.stands_again.Goals as goal
 
 pub returns-in-Some : goal.returns-in-Some

@@ -2,7 +2,7 @@ use Rattle.std.proofs.Common.{◌≡◌, ◌<◌, slice_get, Some, length, map, 
 use Rattle.std.proofs.lemmas.Result.{IfOk-weaker}
 use Rattle.ckr_base.proofs.Sequences.{get-from}
 use Rattle.ckr_points_tables.specs.Rooms.{HasNoPlace}
-use Rattle.ckr_points_tables.specs.View.{written_of}
+use Rattle.ckr_points_runs.specs.View.{written_of}
 use Rattle.ckr_points_tables.proofs.Allocations.Step.{allocated_in, distinct_in, fit_in, stand_in}
 use Rattle.ckr_points_tables.proofs.RoomGrowth.{fits_there, none_beyond}
 use Rattle.ckr_points_tables.proofs.Runs.{length-rows}

@@ -1,8 +1,8 @@
 use Rattle.std.proofs.Common.{◌≡◌, ◌-◌, ◌<◌, ap, sym, ◌∙◌, subst, arith, length, None}
 use Rattle.ckr_points_tables.specs.Invariant.{put_at}
-use Rattle.ckr_points_tables.specs.MadeNames.{points_in}
-use Rattle.ckr_points_tables.specs.RunChange.{changed, earlier_for, going, holding_kit}
-use Rattle.ckr_points_tables.specs.View.{facts_of}
+use Rattle.ckr_points_runs.specs.MadeNames.{points_in}
+use Rattle.ckr_points_runs.specs.RunChange.{changed, earlier_for, going, holding_kit}
+use Rattle.ckr_points_runs.specs.View.{facts_of}
 use Rattle.ckr_points.specs.declared.run.Run.{Run}
 use Rattle.ckr_points_tables.specs.BegunRuns.{AreEnded}
 use Rattle.ckr_points_tables.proofs.BegunRuns.{ended-set, waiting-set}

@@ -8,9 +8,10 @@ use Rattle.ckr_points.specs.Restart.{kept_at}
 use Rattle.ckr_points.specs.Rows.{RunRow, run_of}
 use Rattle.ckr_points_tables.specs.Rooms.{HasNoPlace}
 use Rattle.ckr_points_tables.specs.Parts.{tables_seen}
-use Rattle.ckr_points_tables.specs.RunJobs.{effective}
+use Rattle.ckr_points_runs.specs.RunJobs.{effective}
 use Rattle.ckr_points_tables.specs.Selection.{entries_in, prepared, prepared_for, prepared_of}
-use Rattle.ckr_points_tables.specs.View.{facts_of, row_of, seen_by, table_of, written_of}
+use Rattle.ckr_points_runs.specs.View.{facts_of, seen_by, table_of, written_of}
+use Rattle.ckr_points_tables.specs.View.{row_of}
 use Rattle.ckr_points_tables.proofs.RoomGrowth.{fits_there, found_there, line_there, limits_there, none_beyond, numbered_there, syschk_there}
 use Rattle.ckr_points_tables.proofs.Runs.{length-rows}
 use Rattle.ckr_points_tables.proofs.SelectionRooms.{prepared-beyond, prepared-seen}

@@ -5,8 +5,9 @@ use Rattle.ckr_points.specs.Rows.{TablesModel}
 use Rattle.ckr_points_tables.specs.Invariant.{AreKept, put_at}
 use Rattle.ckr_points_tables.specs.Restart.{line_on}
 use Rattle.ckr_points_tables.specs.Selection.{IsResumed, entries_in, resumed}
-use Rattle.ckr_points_tables.specs.View.{facts_of, rows_of, seen_under, table_in, written_of}
-use Rattle.ckr_points_tables.specs.declared.run_table.RunTable.{RunTable}
+use Rattle.ckr_points_runs.specs.View.{facts_of, written_of}
+use Rattle.ckr_points_tables.specs.View.{rows_of, seen_under, table_in}
+use Rattle.ckr_points_runs.specs.declared.run_table.RunTable.{RunTable}
 use Rattle.ckr_points_tables.proofs.BegunRuns.{ended-set, waiting-set}
 use Rattle.ckr_points_tables.proofs.ContinuedCalls.{continued_placed, continued_low, desk_continued, earlier_inside, kept_continued, line_read, next_at, next_fits, next_none, next_room, next_syschk, nothing-there, parts, own_there, at_there, table_read, own_line, own_table}
 use Rattle.ckr_points_tables.proofs.tables.Tables.continue_run.Goals as goal

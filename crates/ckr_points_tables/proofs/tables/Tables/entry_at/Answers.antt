@@ -2,7 +2,8 @@ use Rattle.std.proofs.Common.{◌≡◌, map, ap, sym, ◌∙◌, None, Some}
 use Rattle.std.specs.Option.{option_copied}
 use Rattle.ckr_points.specs.Tables.{kept_entry}
 use Rattle.ckr_points_tables.specs.Restart.{point_written}
-use Rattle.ckr_points_tables.specs.View.{RoomyTables, point_for, written_of}
+use Rattle.ckr_points_tables.specs.View.{RoomyTables, point_for}
+use Rattle.ckr_points_runs.specs.View.{written_of}
 use Rattle.ckr_points_tables.proofs.Restarts.Views.{entry-found}
 use Rattle.ckr_points_tables.proofs.tables.Tables.entry_at.Goals as goal
 

@@ -6,10 +6,10 @@ use Rattle.ckr_meaning.specs.EffectiveJob.{step_at}
 use Rattle.ckr_points.specs.Restart.{step_in}
 use Rattle.ckr_points_tables.specs.Hold.{held}
 use Rattle.ckr_points_tables.specs.Invariant.{put_at}
-use Rattle.ckr_points_tables.specs.RunChange.{by_step_of, going, holding_kit, place_now}
-use Rattle.ckr_points_tables.specs.StepEnd.{AreLengthsOf}
-use Rattle.ckr_points_tables.specs.RunJobs.{effective}
-use Rattle.ckr_points_tables.specs.View.{facts_of}
+use Rattle.ckr_points_runs.specs.RunChange.{by_step_of, going, holding_kit, place_now}
+use Rattle.ckr_points_runs.specs.StepEnd.{AreLengthsOf}
+use Rattle.ckr_points_runs.specs.RunJobs.{effective}
+use Rattle.ckr_points_runs.specs.View.{facts_of}
 use Rattle.ckr_points_tables.proofs.BegunRuns.{ended-set, waiting-set}
 use Rattle.ckr_points_tables.proofs.Calls.{read-back, read-twice}
 use Rattle.ckr_points_tables.proofs.Holds.{placed, fits_ok, lengths_ok, kept_held, desk_held}

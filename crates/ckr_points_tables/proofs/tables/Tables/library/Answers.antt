@@ -1,7 +1,8 @@
 use Rattle.std.proofs.Common.{◌≤◌, map, ap, sym, ◌∙◌, subst}
 use Rattle.ckr_library.specs.NameMaps.{EachEntry}
 use Rattle.ckr_points.specs.Rows.{TableSet, holding_of}
-use Rattle.ckr_points_tables.specs.View.{RoomyTables, seen_by, written_of}
+use Rattle.ckr_points_tables.specs.View.{RoomyTables}
+use Rattle.ckr_points_runs.specs.View.{seen_by, written_of}
 use Rattle.ckr_points_tables.proofs.RecordWidths.{seen-wide}
 use Rattle.ckr_points_tables.proofs.SetViews.{held-back}
 use Rattle.ckr_points_tables.proofs.tables.Tables.library.Goals as goal

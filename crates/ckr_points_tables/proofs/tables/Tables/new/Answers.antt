@@ -1,7 +1,8 @@
 use Rattle.std.proofs.Common.{◌≡◌, ℕ, zero, suc, ◌≤◌, ap, sym, ◌∙◌, subst, refl, [], length, replicate, slice_index, arith}
 use Rattle.ckr_library.specs.NameMaps.{EachEntry}
 use Rattle.ckr_points_tables.specs.BegunRuns.{AreWaiting}
-use Rattle.ckr_points_tables.specs.Invariant.{AreRuns, IsFilled, IsIndexOf, IsWide}
+use Rattle.ckr_points_tables.specs.Invariant.{AreRuns, IsIndexOf, IsWide}
+use Rattle.ckr_points_runs.specs.PutBack.{IsFilled}
 use Rattle.ckr_points_tables.proofs.Runs.{index-empty}
 use Rattle.ckr_points_tables.proofs.tables.Tables.new.Goals as goal
 

@@ -1,6 +1,7 @@
 use Rattle.std.proofs.Common.{◌-◌, ap, sym, ◌∙◌, subst, arith, slice_set, map}
 use Rattle.ckr_points_tables.specs.Invariant.{AreKept}
-use Rattle.ckr_points_tables.specs.View.{rows_of, seen_under, table_in, written_of}
+use Rattle.ckr_points_tables.specs.View.{rows_of, seen_under, table_in}
+use Rattle.ckr_points_runs.specs.View.{written_of}
 use Rattle.ckr_points.specs.declared.run.RunState.TheVariants.{Held as HeldRun}
 use Rattle.ckr_points.specs.Follows.{is_in_state}
 use Rattle.ckr_points.specs.Rows.{TablesModel}

@@ -4,8 +4,8 @@ use Rattle.ckr_base.specs.declared.code.Code.TheVariants.{System}
 use Rattle.ckr_points.specs.declared.run.Run.{Run}
 use Rattle.ckr_points_tables.specs.Invariant.{put_at}
 use Rattle.ckr_points_tables.specs.Restart.{HasPassedFor, passed_for, restarted}
-use Rattle.ckr_points_tables.specs.RunChange.{going}
-use Rattle.ckr_points_tables.specs.View.{facts_of, written_of}
+use Rattle.ckr_points_runs.specs.RunChange.{going}
+use Rattle.ckr_points_runs.specs.View.{facts_of, written_of}
 use Rattle.ckr_points_tables.proofs.BegunRuns.{ended-set, waiting-set}
 use Rattle.ckr_points_tables.proofs.Calls.{read-back, read-twice}
 use Rattle.ckr_points_tables.proofs.Restarts.Calls.{desk_restarted, few_ok, kept_restarted, may_go_back, fits_ok, placed, room_ok}

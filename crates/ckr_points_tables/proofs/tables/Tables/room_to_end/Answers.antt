@@ -3,12 +3,13 @@ use Rattle.std.specs.Option.{option_map}
 use Rattle.std.proofs.lemmas.Result.{on_ok_weaker}
 use Rattle.ckr_base.proofs.Sequences.{get-from}
 use Rattle.ckr_base.specs.RoomyLists.{Roomy}
-use Rattle.ckr_points_tables.specs.declared.run_table.WrittenEntry.{WrittenEntry}
+use Rattle.ckr_points_runs.specs.declared.run_table.WrittenEntry.{WrittenEntry}
 use Rattle.ckr_points_tables.specs.Parts.{tables_seen}
 use Rattle.ckr_points_tables.specs.Invariant.{room_at}
 use Rattle.ckr_points_tables.specs.Rooms.{HasNoPlace, IsRoomier}
 use Rattle.ckr_points.specs.Rows.{TablesModel, run_of}
-use Rattle.ckr_points_tables.specs.View.{TablesRoom, room_of, rows_of, seen_under, table_in, written_of, next_of}
+use Rattle.ckr_points_tables.specs.View.{TablesRoom, room_of, rows_of, seen_under, table_in, next_of}
+use Rattle.ckr_points_runs.specs.View.{written_of}
 use Rattle.ckr_points_tables.proofs.RoomGrowth.{fits_there, rows_there, kept_there, end_there, each_by, entries-stay, none_beyond}
 use Rattle.ckr_points_tables.proofs.Runs.{length-rows}
 use Rattle.ckr_points_tables.proofs.tables.Tables.room_to_end.Goals as goal

@@ -9,10 +9,12 @@ use Rattle.ckr_base.proofs.Sequences.{get-from, get-set-same, set-same}
 use Rattle.ckr_library.specs.NameMaps.{EachEntry}
 use Rattle.ckr_points.specs.Rows.{TablesModel, run_of}
 use Rattle.ckr_points_tables.specs.Parts.{tables_seen}
-use Rattle.ckr_points_tables.specs.Invariant.{HasEntryRoom, IsFilled, IsWide, entries_at}
+use Rattle.ckr_points_tables.specs.Invariant.{HasEntryRoom, IsWide, entries_at}
+use Rattle.ckr_points_runs.specs.PutBack.{IsFilled}
 use Rattle.ckr_points_tables.specs.Rooms.{EntryFits, HasNoPlace, IsRoomier}
-use Rattle.ckr_points_tables.specs.View.{RoomyTables, TablesRoom, room_of, row_of, rows_of, seen_under, table_in, writing_of, written_of, next_of}
-use Rattle.ckr_points_tables.specs.declared.run_table.WrittenEntry.{WrittenEntry}
+use Rattle.ckr_points_tables.specs.View.{RoomyTables, TablesRoom, room_of, row_of, rows_of, seen_under, table_in, next_of}
+use Rattle.ckr_points_runs.specs.View.{writing_of, written_of}
+use Rattle.ckr_points_runs.specs.declared.run_table.WrittenEntry.{WrittenEntry}
 use Rattle.ckr_points_tables.proofs.RoomGrowth.{checkpoint_there, each-stays, entries_by, found_there, has-seen, fits_there, line_there, none_beyond, numbered_there}
 use Rattle.ckr_points_tables.proofs.Runs.{length-rows}
 use Rattle.ckr_points_tables.proofs.tables.Tables.room_to_keep.Goals as goal

@@ -1,6 +1,7 @@
 use Rattle.std.proofs.Common.{ap, sym, ◌∙◌, slice_get}
 use Rattle.std.specs.Option.{option_map}
-use Rattle.ckr_points_tables.specs.View.{facts_of, facts_in}
+use Rattle.ckr_points_runs.specs.View.{facts_of}
+use Rattle.ckr_points_tables.specs.View.{facts_in}
 use Rattle.ckr_points_tables.proofs.Runs.{facts-run, no_run}
 use Rattle.ckr_points_tables.proofs.tables.Tables.run.Goals as goal
 

@@ -10,17 +10,19 @@ use Rattle.std.specs.Rc.{rc_value}
 use Rattle.std.proofs.lemmas.List.{length-map}
 use Rattle.ckr_base.proofs.Numbers.{nat_le-true}
 use Rattle.ckr_points.specs.Syschk.{names_its_set}
-use Rattle.ckr_points_tables.specs.RunJobs.{IsFitting, JobView, effective, has_few_dds, is_fitting_step, plain_view}
+use Rattle.ckr_points_runs.specs.RunJobs.{IsFitting, JobView, effective, has_few_dds, is_fitting_step, plain_view}
 use Rattle.ckr_meaning.specs.EffectiveJob.{HasDistinctNames, OwnedStep, names_of, owned_by, plain_job}
 use Rattle.ckr_points.specs.declared.run.Run.{Run}
 use Rattle.ckr_points.specs.declared.run.RunState.TheVariants.{Queued}
-use Rattle.ckr_points_tables.specs.declared.run_table.RunTable.{RunTable}
+use Rattle.ckr_points_runs.specs.declared.run_table.RunTable.{RunTable}
 use Rattle.ckr_points.specs.Tables.{after_submitted}
 use Rattle.ckr_points_tables.specs.BegunRuns.{AreEnded, AreWaiting}
 use Rattle.ckr_points_tables.specs.Invariant.{AreRuns, IsIndexOf, IsRun, is_submittable}
-use Rattle.ckr_points_tables.specs.Rewrite.{has_master}
+use Rattle.ckr_points_runs.specs.Rewrite.{has_master}
 use Rattle.ckr_points.specs.Rows.{TablesModel}
-use Rattle.ckr_points_tables.specs.View.{RunTableView, is_within_limits, row_with, rows_of, seen_under, table_in, written_of}
+use Rattle.ckr_points_runs.specs.View.{RunTableView, row_with, written_of}
+use Rattle.ckr_points_runs.specs.RunJobs.{is_within_limits}
+use Rattle.ckr_points_tables.specs.View.{rows_of, seen_under, table_in}
 use Rattle.ckr_points_tables.proofs.BegunRuns.{ended-append, waiting-append}
 use Rattle.ckr_points_tables.proofs.Runs.{index-more, length-rows, rows-more, runs-more}
 use Rattle.ckr_points_tables.proofs.Checkpoints.{seen-begun}

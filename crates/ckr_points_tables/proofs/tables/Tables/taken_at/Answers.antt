@@ -1,7 +1,8 @@
 use Rattle.std.proofs.Common.{◌≡◌, ℕ, map, ap, sym, ◌∙◌, Option, None, Some}
 use Rattle.std.specs.Option.{option_copied, option_map}
 use Rattle.ckr_points.specs.Rows.{EntryPoint, KeptEntry}
-use Rattle.ckr_points_tables.specs.View.{RoomyTables, point_for, written_of}
+use Rattle.ckr_points_tables.specs.View.{RoomyTables, point_for}
+use Rattle.ckr_points_runs.specs.View.{written_of}
 use Rattle.ckr_points_tables.proofs.Restarts.Views.{entry-found}
 use Rattle.ckr_points_tables.proofs.tables.Tables.taken_at.Goals as goal
 

@@ -1,0 +1,11 @@
+pub mod CheckpointNames
+pub mod CheckpointRuns
+pub mod MarkOrder
+pub mod OwnNames
+pub mod PointOrder
+pub mod PointPlaces
+pub mod PutBack
+pub mod RewriteCounts
+pub mod RunJobs
+pub mod StepEnd
+pub mod Steps

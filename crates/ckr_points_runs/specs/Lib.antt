@@ -1,0 +1,14 @@
+pub mod Checkpoint
+pub mod MadeNames
+pub mod MarkOrder
+pub mod Needs
+pub mod NewSets
+pub mod PointOrder
+pub mod PutBack
+pub mod Rewrite
+pub mod RunChange
+pub mod RunJobs
+pub mod RunMarks
+pub mod Start
+pub mod StepEnd
+pub mod View
