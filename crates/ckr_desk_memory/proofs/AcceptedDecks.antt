@@ -24,7 +24,7 @@ use Rattle.ckr_points.specs.Rows.{RunRow, TablesModel}
 use Rattle.ckr_points.specs.Tables.{is_updates, name_with_role}
 use Rattle.ckr_points_invariant.proofs.Decks.Names.{steps-formed}
 use Rattle.ckr_points_invariant.proofs.Rewrite.Invariant.{updated-name, update-is}
-use Rattle.ckr_points_library.specs.Holdings.{owned}
+use Rattle.ckr_desk_plans.specs.Model.Holdings.{owned}
 use Rattle.ckr_points_tables.specs.Invariant.{CanContinue, MayContinue, is_submittable}
 use Rattle.ckr_points_tables.specs.Rewrite.{has_master, has_set, master_dd}
 use Rattle.ckr_points_tables.specs.View.{has_few_dds, is_within_limits}

@@ -13,17 +13,17 @@ use Rattle.ckr_meaning.specs.EffectiveJob.{Effective, OwnedStep, step_at}
 use Rattle.ckr_points.specs.Restart.{place_of, step_in}
 use Rattle.ckr_points.specs.Rows.{RunRow, TableSet, TablesModel, run_of, step_of_run}
 use Rattle.ckr_points.specs.Soundness.{AreLaidOut}
-use Rattle.ckr_points_library.specs.Commit.{output_names}
+use Rattle.ckr_desk_plans.specs.Model.Commit.{output_names}
 use Rattle.ckr_points_tables.specs.Checkpoint.{checkpoint_name}
 use Rattle.ckr_points_tables.specs.RunJobs.{effective}
 use Rattle.ckr_points_tables.specs.Model.RunTable.{RunTable}
 use Rattle.ckr_volumes.specs.Layouts.{StandsIn}
 use Rattle.ckr_volumes.specs.declared.layout.Layout.{Layout}
-use Rattle.ckr_desk_memory.specs.declared.checkpoint.Checkpoint.{Checkpoint}
+use Rattle.ckr_desk_plans.specs.declared.checkpoint.Checkpoint.{Checkpoint}
 use Rattle.ckr_desk_memory.specs.Checkpoints.{IsCheckpointOf}
-use Rattle.ckr_desk_memory.specs.Entries.{entry_bytes, entry_end, entry_to, fits_in, next_entry, next_id, step_now}
-use Rattle.ckr_desk_memory.specs.EntryMarks.{length_behind}
-use Rattle.ckr_desk_memory.specs.EntryTypes.{IsFormedWithState, IsTyped}
+use Rattle.ckr_desk_plans.specs.Entries.{entry_bytes, entry_end, entry_to, fits_in, next_entry, next_id, step_now}
+use Rattle.ckr_desk_plans.specs.EntryMarks.{length_behind}
+use Rattle.ckr_desk_plans.specs.EntryTypes.{IsFormedWithState, IsTyped}
 use Rattle.ckr_desk_memory.specs.Plans.{IsKnown, row_for}
 use Rattle.ckr_desk_memory.specs.View.{RunningStepView, lengths_in, lengths_of_row}
 use Rattle.ckr_desk_memory.proofs.Checkpoints.{PassesTests, entry-id, entry-taken, entry-writes, event-is, lengths-are, next-fits, passes-tests}

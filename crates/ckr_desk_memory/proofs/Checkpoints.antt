@@ -21,18 +21,18 @@ use Rattle.ckr_points.specs.Restart.{kept_at, place_of}
 use Rattle.ckr_points.specs.Rows.{RunRow, TableSet, TablesModel, run_of}
 use Rattle.ckr_points.specs.Soundness.{AreLaidOut}
 use Rattle.ckr_points.specs.declared.run.RunState.TheVariants.{On}
-use Rattle.ckr_points_library.specs.Commit.{output_names}
+use Rattle.ckr_desk_plans.specs.Model.Commit.{output_names}
 use Rattle.ckr_points_tables.specs.Checkpoint.{checkpoint_name}
-use Rattle.ckr_steps.specs.Units.{taken_of}
+use Rattle.ckr_desk_plans.specs.Model.Units.{taken_of}
 use Rattle.ckr_volumes.specs.Layouts.{StandsIn}
 use Rattle.ckr_volumes.specs.declared.layout.Layout.{Layout}
 use Rattle.ckr_desk_turn.specs.Checkpoints.{is_in_range}
 use Rattle.ckr_desk_turn.specs.Queue.{AreNumbered}
 use Rattle.ckr_desk_turn.proofs.Queue.Events.{run_number}
-use Rattle.ckr_desk_memory.specs.declared.checkpoint.Checkpoint.{Checkpoint}
+use Rattle.ckr_desk_plans.specs.declared.checkpoint.Checkpoint.{Checkpoint}
 use Rattle.ckr_desk_memory.specs.Checkpoints.{HasEntrySpace, IsCheckpointOf, event_in_set}
-use Rattle.ckr_desk_memory.specs.Entries.{entry_bytes, entry_end, entry_in_set, entry_to, fits_in, is_written, next_entry, next_id}
-use Rattle.ckr_desk_memory.specs.EntryMarks.{length_behind}
+use Rattle.ckr_desk_plans.specs.Entries.{entry_bytes, entry_end, entry_in_set, entry_to, fits_in, is_written, next_entry, next_id}
+use Rattle.ckr_desk_plans.specs.EntryMarks.{length_behind}
 use Rattle.ckr_desk_memory.specs.EventChanges.{has_space, is_of_run, with_entry_end, without_first}
 use Rattle.ckr_desk_memory.specs.Holders.{changed_names}
 use Rattle.ckr_desk_memory.specs.OwnSets.{AreCopies, AreUpTo, CommitsItsOwn, IsCommittedWith, IsOfOther, IsRunningOf}

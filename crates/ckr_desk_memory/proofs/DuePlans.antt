@@ -12,11 +12,11 @@ use Rattle.ckr_events.specs.declared.event.Made.{Made}
 use Rattle.ckr_meaning.specs.declared.place.Place.{Place}
 use Rattle.ckr_meaning.specs.declared.place.Place.TheVariants.{Before, Opened, Within}
 use Rattle.ckr_points.specs.Restart.{place_of}
-use Rattle.ckr_steps.specs.Units.{due_of}
+use Rattle.ckr_desk_plans.specs.Model.Units.{due_of}
 use Rattle.ckr_points.specs.Rows.{RunRow, step_of_run}
 use Rattle.ckr_points.specs.RuleCases.{rd_in_effect}
 use Rattle.ckr_rules.specs.RuleTables.{suppresses}
-use Rattle.ckr_points_library.specs.declared.cause.Refusal.{Refusal}
+use Rattle.ckr_desk_plans.specs.Model.Refusal.{Refusal}
 use Rattle.ckr_desk_turn.specs.declared.plan.Plan.{Plan}
 use Rattle.ckr_desk_turn.specs.declared.plan.Plan.TheVariants.{Rest, Tell, Work, Pass, Take, Ask, Wait}
 use Rattle.ckr_points.specs.declared.reply.Reply.TheVariants.{Idle}

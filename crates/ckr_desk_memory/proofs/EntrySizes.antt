@@ -15,10 +15,10 @@ use Rattle.ckr_meaning.specs.EffectiveJob.{OwnedStep, is_among, names_of_job}
 use Rattle.ckr_points.specs.Marks.{carried_marks, mark_at, mark_now, marked_under, marks_now, own_names, present_of}
 use Rattle.ckr_points.specs.Rows.{RunRow, TableSet, TablesModel}
 use Rattle.ckr_points.specs.Tables.{committed}
-use Rattle.ckr_points_library.specs.Commit.{output_names}
+use Rattle.ckr_desk_plans.specs.Model.Commit.{output_names}
 use Rattle.ckr_desk_turn.proofs.Checkpoints.Bytes.{spelling-size, marks-size, size_of, sum_sizes}
-use Rattle.ckr_desk_memory.specs.Entries.{entry_bytes, entry_to}
-use Rattle.ckr_desk_memory.specs.EntryMarks.{length_behind}
+use Rattle.ckr_desk_plans.specs.Entries.{entry_bytes, entry_to}
+use Rattle.ckr_desk_plans.specs.EntryMarks.{length_behind}
 use Rattle.ckr_desk_memory.specs.View.{RunningStepView}
 use Rattle.ckr_desk_memory.proofs.Holders.Sets.{there-committed}
 

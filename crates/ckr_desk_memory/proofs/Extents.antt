@@ -1,5 +1,5 @@
 -- The data sets stay laid out behind an event that follows.
-use Rattle.std.proofs.Common.{◌≡◌, ◌==◌, ◌&&◌, ◌||◌, ℕ, zero, suc, Bool, true, false, cond, List, refl, ap, sym, ◌∙◌, Option, None, Some}
+use Rattle.std.proofs.Common.{◌≡◌, ◌==◌, ◌&&◌, ◌||◌, ℕ, zero, suc, Bool, true, false, List, refl, ap, sym, ◌∙◌, Option, None, Some}
 use Rattle.std.specs.Option.{option_map_or}
 use Rattle.ckr_base.proofs.Bools.{and-first, and-second}
 use Rattle.ckr_events.specs.declared.event.Made.{Made}
@@ -9,10 +9,6 @@ use Rattle.ckr_events.specs.declared.event.Ending.{Ending}
 use Rattle.ckr_events.specs.declared.event.Ending.TheVariants.{Completed, Coded, Allocation}
 use Rattle.ckr_events.specs.Jobs.{job_of}
 use Rattle.ckr_jcl.specs.declared.deck.Job.{Job}
-use Rattle.ckr_library.proofs.Named.{at-with_entry}
-use Rattle.ckr_library.specs.Catalog.{Holding, fresh_holding}
-use Rattle.ckr_library.specs.NameMaps.{Name, Named, entry_at, same_name, with_entry}
-use Rattle.ckr_library.specs.declared.sets.DataSet.{DataSet}
 use Rattle.ckr_library.specs.declared.sets.Kept.{Kept}
 use Rattle.ckr_library.specs.declared.sets.Stamp.{Stamp}
 use Rattle.ckr_meaning.specs.Allotments.{DdAllotment}
@@ -22,7 +18,7 @@ use Rattle.ckr_meaning.specs.declared.place.Place.{Place}
 use Rattle.ckr_meaning.specs.declared.place.Place.TheVariants.{Before, Opened, Within}
 use Rattle.ckr_volumes.specs.declared.layout.Layout.{Layout}
 use Rattle.ckr_volumes.specs.Layouts.{StandsIn}
-use Rattle.ckr_points_library.specs.Commit.{output_names}
+use Rattle.ckr_desk_plans.specs.Model.Commit.{output_names}
 use Rattle.ckr_points.specs.declared.run.RunState.TheVariants.{On, Held as HeldRun, Released}
 use Rattle.ckr_points.specs.Tables.{after_checkpointed, after_commit, after_dispositions, after_rewritten, after_started, after_step_ended, name_with_role, is_checkpoints, is_updates, run_disposals, own_made, earlier_made, table_rewritten}
 use Rattle.ckr_points.specs.Follows.{are_items, are_lengths, are_made_clear, ended_follows, follows, is_checkpoint, is_empty, is_in_state, is_rewrite, is_running, lengths_follow, may_start, of_run, of_step, started_follows}
@@ -32,7 +28,6 @@ use Rattle.ckr_points.specs.Rows.{RunRow, TableSet, TablesModel, run_of, standin
 use Rattle.ckr_points.specs.Soundness.{AreLaidOut}
 use Rattle.ckr_points_invariant.proofs.Library.Extents.{committed-laid, disposed_all-laid, fit-lengths, laid-changed, made_all-laid, passed_ended-laid}
 use Rattle.ckr_points_invariant.proofs.PutBack.Sets.{put_back-laid, removed_all-laid}
-use Rattle.ckr_desk_memory.specs.View.{length_in}
 use Rattle.ckr_desk_memory.proofs.Continuations.{by-continuation}
 use Rattle.ckr_desk_memory.proofs.Runs.{by-run, by-step}
 
@@ -187,21 +182,3 @@ module _ (layout : Layout) (tables : TablesModel) (laid : AreLaidOut layout tabl
   laid-behind (Ended job ending) deck follow =
       by-run (Laid layout tables laid) tables job _ laid (λ row at. ended_so layout tables laid row ending (tested tables job (λ row. ended_follows tables row ending) follow row at))
   laid-behind event deck follow = by-run (Laid layout tables laid) tables (job_of event) _ laid (λ row at. laid)
-
--- ---- lengths behind an entry
-
-module _ (check name : Name) (set : DataSet) (most : ℕ) (sets : Named Holding) where
-  abbrev longer : Named Holding
-  longer = with_entry check (fresh_holding (record set { length = most })) sets
-
-  by_name : (b : Bool) → same_name name check ≡ b → length_in longer name ≡ option_map_or (λ (held : Holding). held.set.length) (cond b (Some (fresh_holding (record set { length = most }))) (entry_at sets name)) 0
-  by_name b same =
-      ap (λ (entry : Option Holding). option_map_or (λ (held : Holding). held.set.length) entry 0)
-      (at-with_entry check name (fresh_holding (record set { length = most })) sets ∙ ap (λ b. cond b (Some (fresh_holding (record set { length = most }))) (entry_at sets name)) same)
-
-  -- that of this name, and that of another one
-  pub entered-same : same_name name check ≡ true → length_in (with_entry check (fresh_holding (record set { length = most })) sets) name ≡ most
-  entered-same same = by_name true same
-
-  pub entered-other : same_name name check ≡ false → length_in (with_entry check (fresh_holding (record set { length = most })) sets) name ≡ length_in sets name
-  entered-other apart = by_name false apart

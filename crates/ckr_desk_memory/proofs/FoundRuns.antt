@@ -8,7 +8,7 @@ use Rattle.ckr_library.specs.Catalog.{Holding}
 use Rattle.ckr_library.specs.NameMaps.{Name, Named, entry_at}
 use Rattle.ckr_library.proofs.Named.{at-viewed}
 use Rattle.ckr_meaning.specs.EffectiveJob.{Effective, OwnedStep, step_at}
-use Rattle.ckr_points_library.specs.Commit.{output_names}
+use Rattle.ckr_desk_plans.specs.Model.Commit.{output_names}
 use Rattle.ckr_points.specs.declared.run.Run.{Run}
 use Rattle.ckr_points.specs.declared.run.RunState.TheVariants.{On}
 use Rattle.ckr_points.specs.Payload.{lengths_kept, writes_in}
@@ -17,17 +17,18 @@ use Rattle.ckr_points.specs.Rows.{RunRow, TableSet, TablesModel, run_of, step_of
 use Rattle.ckr_points_tables.specs.Model.RunTable.{RunTable}
 use Rattle.ckr_points_tables.specs.RunRows.{IsRunRow}
 use Rattle.ckr_points_tables.specs.RunJobs.{IsFitting, effective}
-use Rattle.ckr_points_tables.specs.View.{RunTableView, facts_in, facts_of, job_in, row_with, seen_by}
+use Rattle.ckr_points_tables.specs.View.{RunTableView, facts_in, facts_of, job_in, line_of, row_with, seen_by}
 use Rattle.ckr_desk_turn.specs.Codes.{CodePlaceModel, kept_reached, reached_by, running_reached}
 use Rattle.ckr_desk_turn.specs.Jobs.{TurnStep, as_stopped, running_in}
 use Rattle.ckr_desk_turn.specs.Queue.{AreNumbered}
 use Rattle.ckr_desk_turn.proofs.RunningSteps.{stopped-run, stopped-reached}
 use Rattle.ckr_points_tables.specs.Checkpoint.{checkpoint_name}
+use Rattle.ckr_desk_plans.specs.Entries.{row_of_line}
 use Rattle.ckr_desk_memory.specs.EventChanges.{check_name, check_name_in}
 use Rattle.ckr_desk_memory.specs.Plans.{row_for, IsKnown}
 use Rattle.ckr_desk_memory.specs.View.{JobsView, RunningStepView, jobs_of, lengths_in, lengths_of_row, length_in, running_of}
 use Rattle.ckr_base.specs.declared.code.Code.{Code}
-use Rattle.ckr_steps.specs.Units.{due_of, taken_of}
+use Rattle.ckr_desk_plans.specs.Model.Units.{due_of, taken_of}
 
 -- ---- lists
 
@@ -77,11 +78,6 @@ found-run tables p row numbered found =
         later : (k : ℕ) × (row.number ≡ suc from + k) × (slice_get rows k ≡ Some row) → (k : ℕ) × (row.number ≡ from + k) × (slice_get (first ∷ rows) k ≡ Some row)
         later at = (suc at.0, at.1 ∙ omega arith, at.2)
 
--- steps are numbered from one
-pub first-step : (job : Effective) (number : ℕ) (own : OwnedStep) → step_at job number ≡ Some own → 1 ≤ number
-first-step job zero own at = absurd (some-not-none own (sym at))
-first-step job (suc before) own at = omega arith
-
 -- ---- a run that is known
 
 abbrev line_for : ℕ → Run
@@ -116,6 +112,14 @@ module _ (tables : TablesModel) (number : ℕ) (table : RunTable) (known : IsKno
   -- the name of its data set for checkpoints
   pub check-known : check_name_in tables number ≡ option_and_then (checkpoint_name table.job.root) (step_at (effective number table.job) (step_in (place_of (row_for number table))))
   check-known = ap (option_and_then check_name) known.found ∙ known-is check_name refl
+
+-- a run is told by its line and by what the tables keep of it
+pub told-row : (tables : TablesModel) (run : ℕ) (table : RunTable) (known : IsKnown tables run table) (row : RunRow) → run_of tables run ≡ Some row → row ≡ row_with (line_of row) (facts_in row) → row ≡ row_of_line run (line_of row) table
+told-row tables run table known row at told =
+    let same = known-row tables run table known row at in
+    told
+    ∙ ap (λ n. row_with (record (line_of row) { number = n }) (facts_in row)) (ap (λ (r : RunRow). r.number) (sym same) ∙ known.numbered)
+    ∙ ap (λ (facts : RunTableView). row_with (record (line_of row) { number = run }) facts) (ap facts_in (sym same) ∙ known.facts)
 
 -- each run of the tables is within the limits
 abbrev pub AreRunRows : TablesModel → Type 0

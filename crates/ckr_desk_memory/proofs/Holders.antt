@@ -6,6 +6,9 @@ pub mod Moves
 pub mod OwnEntries
 pub mod Submissions
 pub mod Continuations
+pub mod RowTests
+pub mod StepEvents
+pub mod RunEvents
 pub mod Events
 pub mod OwnSets
 pub mod Points

@@ -36,7 +36,7 @@ use Rattle.ckr_desk_turn.specs.Invariant.{is_off, is_on_one}
 use Rattle.ckr_desk_turn.specs.Spelling.{IsCode}
 use Rattle.ckr_desk_memory.specs.Invariant.{IsAnyAccepted, IsPlacedRow, is_in_step}
 use Rattle.ckr_desk_memory.specs.Parts.{step_seen}
-use Rattle.ckr_desk_memory.specs.declared.jobs.RunningStep.{RunningStep}
+use Rattle.ckr_desk_plans.specs.declared.running_step.RunningStep.{RunningStep}
 use Rattle.ckr_desk_memory.specs.View.{RunningStepView}
 use Rattle.ckr_desk_memory.specs.EventChanges.{without_run}
 use Rattle.ckr_desk_memory.proofs.Continuations.{by-continuation}

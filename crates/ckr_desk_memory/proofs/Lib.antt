@@ -1,12 +1,10 @@
-pub use Rattle.ckr_points_follows.proofs.RewriteCounts
+pub use Rattle.ckr_desk_plans.proofs.RewriteCounts
 pub mod AcceptedRuns
 pub mod FoundRuns
 pub mod Plans
 pub mod Points
 pub mod DuePlans
-pub mod DeferredPlans
 pub mod DeferredRestarts
-pub mod RuleCases
 pub mod FailedRuns
 pub mod Continuations
 pub mod AcceptedDecks
@@ -15,11 +13,9 @@ pub mod RecordCounts
 pub mod Rewrites
 pub mod RunNumbers
 pub mod Invariant
-pub mod EffectEntries
-pub mod EntryPoints
-pub mod EntryModels
+pub use Rattle.ckr_desk_plans.proofs.EntryPoints
+pub use Rattle.ckr_desk_plans.proofs.EntryModels
 pub mod EntrySizes
-pub mod EntryTypes
 pub mod Checkpoints
 pub mod CheckpointParts
 pub mod Extents

@@ -7,15 +7,15 @@ use Rattle.std.proofs.lemmas.Bool.{false≢true}
 use Rattle.std.proofs.lemmas.Bool.Decides.{nat_tests}
 use Rattle.std.proofs.lemmas.Option.{same_Some}
 use Rattle.arrayvec.specs.ArrayVec.{ArrayVec}
-use Rattle.ckr_points_library.specs.declared.cause.Cause.{Cause}
-use Rattle.ckr_points_library.specs.declared.cause.Refusal.{Refusal}
-use Rattle.ckr_points_library.specs.Allocation.{Allocation}
+use Rattle.ckr_desk_plans.specs.Model.Cause.{Cause}
+use Rattle.ckr_desk_plans.specs.Model.Refusal.{Refusal}
+use Rattle.ckr_desk_plans.specs.Model.Allocation.{Allocation}
 use Rattle.ckr_base.specs.declared.code.Code.{Code}
 use Rattle.ckr_base.specs.declared.programs.NextDue.{NextDue}
 use Rattle.ckr_base.specs.declared.programs.NextDue.TheVariants.{Finished}
 use Rattle.ckr_base.proofs.Bools.{if-then}
 use Rattle.ckr_base.proofs.Numbers.{equal-true}
-use Rattle.ckr_base.proofs.Options.{is_some-true, some-not-none}
+use Rattle.ckr_base.proofs.Options.{some-not-none}
 use Rattle.ckr_base.proofs.Sequences.{find-passes, get-some}
 use Rattle.ckr_events.specs.declared.event.Event.{Event}
 use Rattle.ckr_events.specs.declared.event.Event.TheVariants.{Started as StartedEvent, Ended as EndedEvent}
@@ -32,7 +32,7 @@ use Rattle.ckr_points.specs.Rows.{RunRow, TablesModel, holding_of, run_of, stand
 use Rattle.ckr_queue.specs.declared.entry.QueueEntry.{QueueEntry}
 use Rattle.ckr_queue.specs.declared.entry.Selection.TheVariants as Selected
 use Rattle.ckr_queue.specs.Queue.{selection_of}
-use Rattle.ckr_steps.specs.Units.{due_of}
+use Rattle.ckr_desk_plans.specs.Model.Units.{due_of}
 use Rattle.ckr_desk_turn.specs.DeckLimits.{FitsAllocation}
 use Rattle.ckr_desk_turn.proofs.Decks.AllocationNeeds.{all_fit}
 use Rattle.ckr_points_tables.specs.Model.RunTable.{RunTable}
@@ -57,7 +57,7 @@ use Rattle.ckr_desk_memory.specs.Invariant.{IsAcceptedRow, IsAnyPlaceOf, IsPlace
 use Rattle.ckr_desk_memory.specs.Plans.{next_step, row_for, IsKnown, NeedsRoom}
 use Rattle.ckr_desk_memory.specs.View.{JobsView, RunningStepView, jobs_of, lengths_of_row}
 use Rattle.ckr_desk_memory.proofs.Starts.Steps.{row-among, step-among}
-use Rattle.ckr_desk_memory.proofs.FoundRuns.{first-step, found-run, known-by, known-is, known-row, lengths-known, running-found, working-is, working_of}
+use Rattle.ckr_desk_memory.proofs.FoundRuns.{found-run, known-by, known-is, known-row, lengths-known, running-found, working-is, working_of}
 
 -- the number of a run that is known
 pub number-known : (tables : TablesModel) (job : ℕ) (table : RunTable) (known : IsKnown tables job table) (row : RunRow) → run_of tables job ≡ Some row → row.number ≡ job
@@ -171,10 +171,6 @@ within-there row placed none = by row.place placed.place none
 pub known-there : (tables : TablesModel) (run : ℕ) (table : RunTable) (known : IsKnown tables run table) → AllByRecursion IsPlacedRow tables.runs → next_step false None None (place_of known.row) ≡ None → IsSome (own_step (row_for run table))
 known-there tables run table known placed none =
     subst IsSome (known-is tables run table known own_step refl) (within-there known.row (row-among IsPlacedRow tables run known.row placed known.found) none)
-
--- steps are numbered from one
-pub own-above : (row : RunRow) → IsSome (own_step row) → 1 ≤ step_in (place_of row)
-own-above row there = is_some-true (own_step row) there (λ own at. first-step row.job (step_in (place_of row)) own at)
 
 module _ (jobs : JobsView) (run : ℕ) (table : RunTable) (known : IsKnown jobs.tables.desk run table) (number : ℕ) where
   abbrev pub within_plan : Option TurnStep → Plan

@@ -5,8 +5,8 @@ use Rattle.ckr_base.proofs.Bools.{and-first, and-second}
 use Rattle.ckr_base.proofs.Numbers.{nat_le-true}
 use Rattle.ckr_events.specs.declared.event.Event.{Event}
 use Rattle.ckr_events.specs.declared.event.Event.TheVariants.{Submitted, Held}
-use Rattle.ckr_points_follows.specs.RewriteCounts.{may_count}
-use Rattle.ckr_points_follows.proofs.RewriteCounts.{counted-may}
+use Rattle.ckr_desk_plans.specs.Model.RewriteCounts.{may_count}
+use Rattle.ckr_desk_plans.proofs.RewriteCounts.{counted-may}
 use Rattle.ckr_jcl.specs.declared.deck.Job.{Job}
 use Rattle.ckr_volumes.specs.declared.layout.Layout.{Layout}
 use Rattle.ckr_points.specs.Follows.{follows}

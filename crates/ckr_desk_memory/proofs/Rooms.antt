@@ -19,7 +19,7 @@ use Rattle.ckr_points_tables.proofs.SelectionRooms.{needs-none}
 use Rattle.ckr_base.proofs.Numbers.{equal-true, suc-same, zero-not-suc}
 use Rattle.ckr_desk_memory.specs.EventChanges.{HasUses}
 use Rattle.ckr_desk_turn.specs.declared.inquiry.Inquiry.{Inquiry}
-use Rattle.ckr_desk_memory.specs.declared.jobs.RunningStep.{RunningStep}
+use Rattle.ckr_desk_plans.specs.declared.running_step.RunningStep.{RunningStep}
 use Rattle.ckr_desk_memory.specs.declared.preparation.Prepared.{Prepared}
 use Rattle.ckr_desk_memory.specs.Preparation.{HasGoingBack, HasQueueRoom, HasStarted, IsPrepared, IsPreparedFor, needs_room}
 use Rattle.ckr_desk_memory.specs.MountMemory.{IsPreparedToMount, IsPreparedToTell, none_prepared}

@@ -14,7 +14,7 @@ use Rattle.ckr_volumes.specs.declared.layout.Layout.{Layout}
 use Rattle.ckr_volumes.specs.Layouts.{StandsIn, lie_apart}
 use Rattle.ckr_points.specs.Rows.{TableSet, holding_of}
 use Rattle.ckr_points.specs.Soundness.{AreLaidOut}
-use Rattle.ckr_steps.specs.Inputs.{AreStored}
+use Rattle.ckr_desk_plans.specs.Model.Inputs.{AreStored}
 use Rattle.ckr_points_tables.specs.View.{seen_by}
 use Rattle.ckr_desk_memory.specs.Start.{AllFit, set_in_tables, with_all_taken, with_any_taken}
 

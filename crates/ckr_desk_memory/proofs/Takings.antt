@@ -22,8 +22,8 @@ use Rattle.ckr_points.specs.Follows.{ended_follows, is_in_state, is_running, is_
 use Rattle.ckr_points.specs.Restart.{place_of}
 use Rattle.ckr_points.specs.Rows.{RunRow, TablesModel, run_of}
 use Rattle.ckr_points.specs.declared.run.RunState.TheVariants.{On}
-use Rattle.ckr_points_library.specs.declared.cause.Cause.{Cause}
-use Rattle.ckr_points_library.specs.declared.cause.Cause.TheVariants.{MountRefused, Units}
+use Rattle.ckr_desk_plans.specs.Model.Cause.{Cause}
+use Rattle.ckr_desk_plans.specs.Model.Cause.TheVariants.{MountRefused, Units}
 use Rattle.ckr_volumes.specs.declared.layout.Layout.{Layout}
 use Rattle.ckr_desk_memory.specs.EventChanges.{is_of_run}
 use Rattle.ckr_desk_memory.specs.OwnSets.{IsRunningOf}

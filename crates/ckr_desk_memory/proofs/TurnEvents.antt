@@ -18,8 +18,8 @@ use Rattle.ckr_meaning.specs.EffectiveJob.{OwnedStep, stamp_of}
 use Rattle.ckr_meaning.specs.declared.place.Place.{Place}
 use Rattle.ckr_meaning.specs.declared.place.Place.TheVariants.{Before, Opened, Within}
 use Rattle.ckr_volumes.specs.declared.layout.Layout.{Layout}
-use Rattle.ckr_points_library.specs.declared.cause.Refusal.{Refusal}
-use Rattle.ckr_points_library.specs.Allocation.{Allocation}
+use Rattle.ckr_desk_plans.specs.Model.Refusal.{Refusal}
+use Rattle.ckr_desk_plans.specs.Model.Allocation.{Allocation}
 use Rattle.ckr_points.specs.declared.run.RunState.{RunState}
 use Rattle.ckr_points.specs.declared.run.RunState.TheVariants.{On, Queued}
 use Rattle.ckr_points.specs.Follows.{follows, is_in_state, is_running, is_within, own_step, state_number}

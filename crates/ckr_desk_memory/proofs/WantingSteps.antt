@@ -12,7 +12,7 @@ use Rattle.ckr_library.specs.NameMaps.{Named}
 use Rattle.ckr_meaning.specs.EffectiveJob.{OwnedStep}
 use Rattle.ckr_points.specs.Follows.{own_step}
 use Rattle.ckr_points.specs.Rows.{RunRow, TablesModel, holding_of, run_of, step_of_run}
-use Rattle.ckr_points_library.specs.declared.cause.Cause.{Cause}
+use Rattle.ckr_desk_plans.specs.Model.Cause.{Cause}
 use Rattle.ckr_points_tables.proofs.RunJobs.{fits-at}
 use Rattle.ckr_points_tables.specs.RunJobs.{IsFittingStep, effective, own_of}
 use Rattle.ckr_points_tables.specs.View.{seen_by}

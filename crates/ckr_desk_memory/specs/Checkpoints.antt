@@ -1,31 +1,20 @@
 -- The next checkpoint of a running step, where its entry fits: the event commits what the step has written, and its data set for checkpoints is
 -- as long as behind the entry (IBM GC28-6708).
-use Rattle.std.specs.Prelude.{◌≡◌, ◌≤◌, ◌+◌, true, length, map, Some}
+use Rattle.std.specs.Prelude.{◌≡◌, ◌≤◌, ◌+◌, true, length, Some}
 use Rattle.ckr_entry.specs.Entry.{spelling}
-use Rattle.ckr_events.specs.declared.event.Event.{Event}
-use Rattle.ckr_events.specs.declared.event.Event.TheVariants.{Checkpointed}
 use Rattle.ckr_library.specs.Catalog.{records_of}
 use Rattle.ckr_library.specs.NameMaps.{Name, entry_at}
 use Rattle.ckr_meaning.specs.EffectiveJob.{OwnedStep}
 use Rattle.ckr_points.specs.Rows.{RunRow, TableSet, TablesModel, run_of, step_of_run}
-use Rattle.ckr_points_library.specs.Commit.{output_names}
 use Rattle.ckr_points_tables.specs.Checkpoint.{checkpoint_name}
-use Rattle.ckr_steps.specs.Units.{taken_of}
 use Rattle.ckr_volumes.specs.Layouts.{StandsIn}
 use Rattle.ckr_volumes.specs.declared.layout.Layout.{Layout}
-use Rattle.ckr_desk_memory.specs.declared.checkpoint.Checkpoint.{Checkpoint}
-use Rattle.ckr_desk_memory.specs.Entries.{entry_bytes, entry_end, entry_to, fits_in, next_id, step_now}
-use Rattle.ckr_desk_memory.specs.EntryMarks.{length_behind}
-use Rattle.ckr_desk_memory.specs.EntryTypes.{IsFormedWithState, IsTyped}
+use Rattle.ckr_desk_plans.specs.declared.checkpoint.Checkpoint.{Checkpoint}
+use Rattle.ckr_desk_plans.specs.Entries.{entry_end, entry_to, fits_in, step_now}
+use Rattle.ckr_desk_plans.specs.EntryTypes.{IsFormedWithState, IsTyped}
 use Rattle.ckr_desk_memory.specs.Invariant.{AreJobs}
 use Rattle.ckr_desk_memory.specs.View.{JobsView, RunningStepView}
-
--- the event of the entry that begins behind the last record of this data set
-abbrev pub event_in_set : TablesModel → RunRow → OwnedStep → RunningStepView → Name → TableSet → Event
-event_in_set tables row own on check table =
-    Checkpointed row.number (next_id row own) (taken_of on.step.state) on.step.writes
-    (record { items = map (length_behind (Some check) (entry_end check table tables row own on) on.sets.sets) (output_names row.job.root own) })
-    table.set.length (entry_bytes check tables row own on)
+pub use Rattle.ckr_desk_plans.specs.Checkpoints.{event_in_set}
 
 -- A checkpoint that fits is that of the step that its run is in, with the data set for checkpoints as the tables have it. What its entry has
 -- is as its types have it, so it is one that is read back where its state has the form of its program's states.

@@ -16,8 +16,8 @@ use Rattle.ckr_points_tables.specs.Checkpoint.{checkpoint_name}
 use Rattle.ckr_queue.specs.declared.entry.QueueEntry.{QueueEntry}
 use Rattle.ckr_queue.specs.declared.entry.QueueState.TheVariants.{Selected as SelectedRun}
 use Rattle.ckr_queue.specs.Queue.{has_names, is_held, is_in, is_queued, may_take, state_of, with_state}
-use Rattle.ckr_steps.specs.declared.step_run.StepRun.{StepRun}
-use Rattle.ckr_steps.specs.Units.{entries_of, served_of}
+use Rattle.ckr_desk_plans.specs.StepTypes.StepRun.{StepRun}
+use Rattle.ckr_desk_plans.specs.Model.Units.{entries_of, served_of}
 use Rattle.ckr_desk_turn.specs.declared.failed_run.FailedRun.{FailedRun}
 use Rattle.ckr_desk_turn.specs.Desk.{is_running}
 use Rattle.ckr_desk_turn.specs.Queue.{queue_behind}

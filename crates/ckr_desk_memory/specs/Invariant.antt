@@ -19,8 +19,8 @@ use Rattle.ckr_points.specs.Rows.{RunRow}
 use Rattle.ckr_points.specs.Soundness.{AreLaidOut}
 use Rattle.ckr_desk_turn.specs.Spelling.{IsCode}
 use Rattle.ckr_desk_turn.specs.Invariant.{has_code_while_off, IsAdmittedStep, is_off, is_on_one}
-use Rattle.ckr_steps.specs.Inputs.{AreStored, AreThere}
-use Rattle.ckr_steps.specs.StepUnit.{AreCounted}
+use Rattle.ckr_desk_plans.specs.Model.Inputs.{AreStored, AreThere}
+use Rattle.ckr_desk_plans.specs.Model.StepUnit.{AreCounted}
 use Rattle.ckr_volumes.specs.declared.layout.Layout.{Layout}
 use Rattle.ckr_desk_memory.specs.Plans.{IsAnyCode}
 use Rattle.ckr_desk_memory.specs.View.{JobsView, RunningStepView}

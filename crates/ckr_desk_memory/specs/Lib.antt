@@ -1,5 +1,5 @@
 pub mod EventChanges
-pub mod Extents
+pub use Rattle.ckr_desk_plans.specs.Extents
 pub mod RunningSteps
 pub mod Invariant
 pub mod Lines
@@ -11,10 +11,10 @@ pub mod View
 pub mod Start
 pub mod Rewrite
 pub mod Model
-pub mod EntryMarks
-pub mod Entries
-pub mod EntryTypes
-pub mod EntryModels
+pub use Rattle.ckr_desk_plans.specs.EntryMarks
+pub use Rattle.ckr_desk_plans.specs.Entries
+pub use Rattle.ckr_desk_plans.specs.EntryTypes
+pub use Rattle.ckr_desk_plans.specs.EntryModels
 pub mod Checkpoints
 pub mod Holders
 pub mod OwnSets

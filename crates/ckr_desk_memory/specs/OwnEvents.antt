@@ -12,8 +12,8 @@ use Rattle.ckr_meaning.specs.EffectiveJob.{OwnedStep}
 use Rattle.ckr_points.specs.Restart.{place_of, step_in}
 use Rattle.ckr_points.specs.Rows.{RunRow, TablesModel, run_of}
 use Rattle.ckr_points.specs.declared.run.RunState.TheVariants.{On, Released}
-use Rattle.ckr_steps.specs.StepUnit.{worked_for}
-use Rattle.ckr_steps.specs.declared.step_run.Worked.TheVariants.{Rewrite}
+use Rattle.ckr_desk_plans.specs.Model.StepUnit.{worked_for}
+use Rattle.ckr_desk_plans.specs.StepTypes.Worked.TheVariants.{Rewrite}
 use Rattle.ckr_desk_memory.specs.View.{RunningStepView, lengths_of_row}
 
 -- the lengths are those that the step has

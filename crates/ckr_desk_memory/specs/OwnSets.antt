@@ -13,10 +13,10 @@ use Rattle.ckr_points.specs.Restart.{place_of}
 use Rattle.ckr_points.specs.Rows.{RunRow, TableSet, TablesModel, run_of}
 use Rattle.ckr_points.specs.Tables.{is_updates, name_with_role}
 use Rattle.ckr_points.specs.declared.run.RunState.TheVariants.{On}
-use Rattle.ckr_points_library.specs.Commit.{output_names}
+use Rattle.ckr_desk_plans.specs.Model.Commit.{output_names}
 use Rattle.ckr_points_tables.specs.Checkpoint.{checkpoint_name}
-use Rattle.ckr_steps.specs.Files.{files_of}
-use Rattle.ckr_steps.specs.Units.{program_of}
+use Rattle.ckr_desk_plans.specs.Model.Files.{files_of}
+use Rattle.ckr_desk_plans.specs.Model.Units.{program_of}
 use Rattle.ckr_desk_memory.specs.EventChanges.{is_of_run, with_entry_end, without_first}
 use Rattle.ckr_desk_memory.specs.View.{RunningStepView, length_in}
 use Rattle.ckr_desk_memory.specs.Holders.{changed_names}

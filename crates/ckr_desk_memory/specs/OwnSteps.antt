@@ -1,27 +1,25 @@
 -- The jobs in memory hold their own: their runs stay apart, each running step is that of its run, and the only one of it, and where a checkpoint is in
 -- effect they have its point.
-use Rattle.std.specs.Prelude.{◌≡◌, ◌≢◌, ℕ, suc, true, find, List, [], ◌∷◌, None, Some}
+use Rattle.std.specs.Prelude.{◌≡◌, ◌≢◌, ℕ, suc, true, find, List, [], ◌∷◌, Some}
 use Rattle.std.specs.List.{AllByRecursion}
 use Rattle.std.specs.Option.{is_some}
 use Rattle.ckr_desk_turn.specs.declared.failed_run.FailedRun.{FailedRun}
-use Rattle.ckr_desk_turn.specs.declared.inquiry.Inquiry.{Inquiry}
 use Rattle.ckr_desk_turn.specs.declared.plan.Plan.{Plan}
 use Rattle.ckr_desk_turn.specs.declared.plan.Plan.TheVariants.{Rest, Tell, Work, Pass, Take, Ask, Wait}
-use Rattle.ckr_desk_turn.specs.Inquiries.{hold_event, refusal_event, restart_event}
 use Rattle.ckr_events.specs.Jobs.{job_of}
 use Rattle.ckr_events.specs.declared.event.Event.{Event}
 use Rattle.ckr_events.specs.declared.event.Event.TheVariants.{Selected, StepEnded}
-use Rattle.ckr_points.specs.Follows.{follows, is_running, own_step}
+use Rattle.ckr_points.specs.Follows.{is_running, own_step}
 use Rattle.ckr_points.specs.Rows.{RunRow, TablesModel, run_of, step_of_run}
 use Rattle.ckr_meaning.specs.EffectiveJob.{OwnedStep}
-use Rattle.ckr_steps.specs.Units.{program_of}
-use Rattle.ckr_volumes.specs.declared.layout.Layout.{Layout}
+use Rattle.ckr_desk_plans.specs.Model.Units.{program_of}
 use Rattle.ckr_desk_memory.specs.EventChanges.{is_point_of}
 use Rattle.ckr_desk_memory.specs.Holders.{AreHolders}
 use Rattle.ckr_desk_memory.specs.Invariant.{is_in_step}
 use Rattle.ckr_desk_memory.specs.OwnSets.{CommitsItsOwn, IsRunningOf}
 pub use Rattle.ckr_desk_memory.specs.OwnSets.{IsOfOther}
 use Rattle.ckr_desk_memory.specs.View.{JobsView, PointView, RunningStepView}
+pub use Rattle.ckr_desk_plans.specs.PlanEvents.{AnswersFollow, PlanFollows}
 
 -- no two running steps are of one run
 abbrev pub AreSingle : List RunningStepView → Type 0
@@ -71,22 +69,6 @@ LeavesLeft (StepEnded job step rc writes lengths) failed = AllByRecursion (IsOth
 LeavesLeft _ failed = Unit {0}
 
 -- ---- what a turn comes to
-
--- the events of all answers to what the operator is asked follow
-pub record AnswersFollow (layout : Layout) (tables : TablesModel) (inquiry : Inquiry) : Type 0 where
-  pub restart : follows layout tables (restart_event inquiry) None ≡ true
-  pub refusal : follows layout tables (refusal_event inquiry) None ≡ true
-  pub hold : follows layout tables (hold_event inquiry) None ≡ true
-
--- the event of a plan, if it tells one, follows
-abbrev pub PlanFollows : Layout → TablesModel → Plan → Type 0
-PlanFollows layout tables (Rest reply) = Unit {0}
-PlanFollows layout tables (Tell reply event) = follows layout tables event None ≡ true
-PlanFollows layout tables (Work job) = Unit {0}
-PlanFollows layout tables (Pass job reply) = Unit {0}
-PlanFollows layout tables (Take job) = Unit {0}
-PlanFollows layout tables (Ask inquiry) = AnswersFollow layout tables inquiry
-PlanFollows layout tables (Wait job code) = Unit {0}
 
 -- what it commits is its step's own
 abbrev pub PlanCommits : TablesModel → List RunningStepView → Plan → Type 0

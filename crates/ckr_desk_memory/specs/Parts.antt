@@ -5,14 +5,11 @@ use Rattle.ckr_jcl.specs.declared.deck.Parm.{Parm}
 use Rattle.ckr_programs.specs.Ranges.{IsInRange}
 use Rattle.ckr_queue.specs.declared.entry.QueueEntry.{QueueEntry}
 use Rattle.ckr_points.specs.Rows.{TablesModel}
-use Rattle.ckr_steps.specs.Units.{IsCounted}
+use Rattle.ckr_desk_plans.specs.Model.Units.{IsCounted}
 use Rattle.ckr_desk_turn.specs.Queue.{AreNumbered, queue_of}
 use Rattle.ckr_desk_memory.specs.declared.jobs.Jobs.TheInside.{Inside}
-use Rattle.ckr_desk_memory.specs.declared.jobs.RunningStep.{RunningStep}
-use Rattle.ckr_desk_memory.specs.View.{JobsView, PointView, RunningStepView}
-
-abbrev pub step_seen : RunningStep → RunningStepView
-step_seen on = record { run = on.run; step = on.step; sets = on.sets; code = on.code }
+use Rattle.ckr_desk_memory.specs.View.{JobsView, PointView}
+pub use Rattle.ckr_desk_plans.specs.StepView.{step_seen}
 
 abbrev pub jobs_seen : Inside → JobsView
 jobs_seen a = record {

@@ -1,45 +1,31 @@
 -- What a turn comes to, by the jobs in memory.
-use Rattle.std.specs.Prelude.{◌≡◌, ◌≤◌, ℕ, Bool, true, false, IsSome, [], find, Option, None, Some, pred, slice_get}
+use Rattle.std.specs.Prelude.{◌≡◌, ◌≤◌, ℕ, Bool, true, false, IsSome, find, Option, None, Some, pred, slice_get}
 use Rattle.ckr_base.specs.declared.code.Code.{Code}
 use Rattle.ckr_base.specs.declared.programs.NextDue.{NextDue}
 use Rattle.ckr_base.specs.declared.programs.NextDue.TheVariants.{Unit as OneUnit, Checkpoint}
-use Rattle.ckr_events.specs.Format.{length_list}
-use Rattle.ckr_events.specs.declared.event.Ending.{Ending}
-use Rattle.ckr_events.specs.declared.event.Ending.TheVariants.{Coded}
-use Rattle.ckr_events.specs.declared.event.Event.{Event}
-use Rattle.ckr_events.specs.declared.event.Event.TheVariants.{Rewritten as RewrittenEvent, Restarted as RestartedEvent, Held as HeldEvent, Ended as EndedEvent}
+use Rattle.ckr_events.specs.declared.event.Event.TheVariants.{Rewritten as RewrittenEvent}
 use Rattle.ckr_meaning.specs.EffectiveJob.{OwnedStep}
 use Rattle.ckr_meaning.specs.declared.place.Place.{Place}
 use Rattle.ckr_meaning.specs.declared.place.Place.TheVariants.{Before, Opened, Within}
-use Rattle.ckr_points.specs.declared.run.RunState.TheVariants.{On}
-use Rattle.ckr_library.specs.NameMaps.{Name}
-use Rattle.ckr_points.specs.Rows.{KeptEntry, RunRow, TablesModel, run_of, step_of_run}
-use Rattle.ckr_steps.specs.declared.step_run.Worked.{Worked}
-use Rattle.ckr_steps.specs.declared.step_run.Worked.TheVariants.{Went, Rewrite, Abend}
-use Rattle.ckr_steps.specs.declared.unit_ahead.UnitAhead.{UnitAhead}
-use Rattle.ckr_steps.specs.StepUnit.{AreCounted, behind_ahead}
-use Rattle.ckr_steps.specs.Units.{due_of}
-use Rattle.ckr_steps.specs.Writes.{grown}
+use Rattle.ckr_points.specs.Rows.{RunRow, TablesModel, run_of, step_of_run}
+use Rattle.ckr_desk_plans.specs.StepTypes.Worked.{Worked}
+use Rattle.ckr_desk_plans.specs.StepTypes.Worked.TheVariants.{Went, Rewrite, Abend}
+use Rattle.ckr_desk_plans.specs.Model.StepUnit.{AreCounted}
+use Rattle.ckr_desk_plans.specs.Model.Units.{due_of}
 use Rattle.ckr_points_tables.specs.Model.RunTable.{RunTable}
 use Rattle.ckr_points_tables.specs.RunJobs.{IsFitting, effective}
-use Rattle.ckr_points_tables.specs.View.{facts_in, facts_of, row_with}
-use Rattle.ckr_desk_turn.specs.declared.inquiry.Inquiry.{Inquiry}
+use Rattle.ckr_points_tables.specs.View.{facts_in, facts_of}
 use Rattle.ckr_desk_turn.specs.declared.plan.Plan.{Plan}
 use Rattle.ckr_desk_turn.specs.declared.plan.Plan.TheVariants.{Rest, Tell, Work, Pass, Take, Ask, Wait}
 use Rattle.ckr_points.specs.declared.reply.Reply.TheVariants.{Worked as WorkedReply}
-pub use Rattle.ckr_points.specs.Replies.{HasCode, IsToldReply}
-use Rattle.ckr_desk_turn.specs.Codes.{CodePlaceModel as ReachedByTurn, code_plan, initiator_of, running_reached}
+pub use Rattle.ckr_desk_plans.specs.Plans.{HasCode, IsToldReply, row_for, reached_seen, IsSpelledInquiry, IsSpelledPlan, is_coded, is_unit_event, IsUnitPlan, behind_unit, told_entry}
+use Rattle.ckr_desk_turn.specs.Codes.{code_plan, initiator_of, running_reached}
 use Rattle.ckr_desk_turn.specs.Jobs.{TurnStep, step_name_of}
-use Rattle.ckr_desk_turn.specs.Spelling.{IsCode, IsSpelled}
+use Rattle.ckr_desk_turn.specs.Spelling.{IsCode}
 use Rattle.ckr_volumes.specs.declared.layout.Layout.{Layout}
-use Rattle.ckr_desk_memory.specs.declared.run_code.CodePlace.{CodePlace}
 use Rattle.ckr_desk_memory.specs.EventChanges.{is_of_run}
 use Rattle.ckr_desk_memory.specs.Preparation.{needs_room}
 use Rattle.ckr_desk_memory.specs.View.{JobsView, RunningStepView}
-
--- a run by its number and by what the tables keep of it; a plan asks no more of its line
-abbrev pub row_for : ℕ → RunTable → RunRow
-row_for number table = row_with (record { number = number; name = []; state = On; initiator = None }) (facts_of table)
 
 -- the tables have this run, which is within the limits
 pub record IsKnown (tables : TablesModel) (number : ℕ) (table : RunTable) : Type 0 where
@@ -72,28 +58,10 @@ next_step false None None (Before number) = Some number
 next_step false None None (Opened number) = Some number
 next_step false None None (Within number writes) = None
 
-abbrev pub reached_seen : CodePlace → ReachedByTurn
-reached_seen reached = record { writes = reached.writes; lengths = reached.lengths.items }
-
 -- the code, if there is one, has a spelling
 abbrev pub IsAnyCode : Option Code → Type 0
 IsAnyCode None = Unit {0}
 IsAnyCode (Some code) = IsCode code
-
--- the events of all answers to what the operator is asked have a spelling
-pub record IsSpelledInquiry (inquiry : Inquiry) : Type 0 where
-  pub code : IsCode inquiry.code
-  pub lengths : length_list.fits inquiry.lengths.items
-
--- the event of a plan, if there is one, has a spelling, and so have the code of its reply and the one with which a run waits
-abbrev pub IsSpelledPlan : Plan → Type 0
-IsSpelledPlan (Rest reply) = IsToldReply reply
-IsSpelledPlan (Tell reply event) = IsSpelled event × IsToldReply reply
-IsSpelledPlan (Work job) = Unit {0}
-IsSpelledPlan (Pass job reply) = IsToldReply reply
-IsSpelledPlan (Take job) = Unit {0}
-IsSpelledPlan (Ask inquiry) = IsSpelledInquiry inquiry
-IsSpelledPlan (Wait job code) = IsCode code
 
 -- the running step of a run is there, its run waits with no code, and this is due
 abbrev pub IsDue : JobsView → ℕ → NextDue → Type 0
@@ -119,28 +87,6 @@ NeedsRoom (Take job) = ⊥
 NeedsRoom (Ask inquiry) = Unit {0}
 NeedsRoom (Wait job code) = ⊥
 
--- whether a run ends by a code
-abbrev pub is_coded : Ending → Bool
-is_coded (Coded code rule writes lengths) = true
-is_coded _ = false
-
--- what a unit tells, if it tells an event: a rewrite in place, or the end, the hold or the restart of its run after a code
-abbrev pub is_unit_event : Event → Bool
-is_unit_event (RewrittenEvent job taken writes lengths place image) = true
-is_unit_event (RestartedEvent job initiator code checkpoint) = true
-is_unit_event (HeldEvent job code writes lengths) = true
-is_unit_event (EndedEvent job ending) = is_coded ending
-is_unit_event _ = false
-
-abbrev pub IsUnitPlan : Plan → Type 0
-IsUnitPlan (Rest reply) = Unit {0}
-IsUnitPlan (Tell reply event) = is_unit_event event ≡ true
-IsUnitPlan (Work job) = ⊥
-IsUnitPlan (Pass job reply) = ⊥
-IsUnitPlan (Take job) = ⊥
-IsUnitPlan (Ask inquiry) = Unit {0}
-IsUnitPlan (Wait job code) = Unit {0}
-
 -- the code with which a unit ends, if it ends its step, has a spelling
 abbrev pub IsWorkedCode : Worked → Type 0
 IsWorkedCode (Went taken) = Unit {0}
@@ -151,19 +97,6 @@ IsWorkedCode (Abend code) = IsCode code
 abbrev pub IsWent : Worked → Type 0
 IsWent (Went taken) = Unit {0}
 IsWent _ = ⊥
-
--- a running step behind a unit that was worked out, with its data sets; the run of one that works waits with no code
-abbrev pub behind_unit : RunningStepView → UnitAhead → RunningStepView
-behind_unit on ahead = record {
-  run = on.run;
-  step = behind_ahead on.step ahead;
-  sets = record on.sets { sets = grown on.step.files ahead.writes.items on.sets.sets };
-  code = None;
-}
-
--- what a turn tells of the entry of a checkpoint: its identifier, and the records taken there
-abbrev pub told_entry : KeptEntry → Name × ℕ
-told_entry entry = (entry.kept.id, entry.point.taken)
 
 -- what a turn tells of a unit, with the running step behind it
 abbrev pub told_by : Layout → TablesModel → RunRow → TurnStep → Worked → Plan

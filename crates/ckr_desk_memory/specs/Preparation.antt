@@ -6,12 +6,12 @@ use Rattle.ckr_jcl.specs.declared.deck.Job.{Job}
 use Rattle.ckr_meaning.specs.EffectiveJob.{OwnedStep}
 use Rattle.ckr_points.specs.Follows.{own_step}
 use Rattle.ckr_points.specs.Rows.{RunRow, TablesModel, run_of, step_of_run}
-use Rattle.ckr_steps.specs.StepUnit.{AreCounted}
-use Rattle.ckr_steps.specs.declared.step_run.StepRun.{StepRun}
+use Rattle.ckr_desk_plans.specs.Model.StepUnit.{AreCounted}
+use Rattle.ckr_desk_plans.specs.StepTypes.StepRun.{StepRun}
 use Rattle.ckr_points_tables.specs.Invariant.{HasRoom}
 use Rattle.ckr_desk_turn.specs.declared.inquiry.Inquiry.{Inquiry}
 use Rattle.ckr_desk_turn.specs.Inquiries.{hold_event, refusal_event, restart_event}
-use Rattle.ckr_desk_memory.specs.declared.jobs.RunningStep.{RunningStep}
+use Rattle.ckr_desk_plans.specs.declared.running_step.RunningStep.{RunningStep}
 use Rattle.ckr_desk_memory.specs.declared.preparation.Prepared.{Prepared}
 use Rattle.ckr_desk_memory.specs.EventChanges.{HasUses, is_point_of}
 use Rattle.ckr_desk_memory.specs.View.{JobsView, PointView, begun, resumed}

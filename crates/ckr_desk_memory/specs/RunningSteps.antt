@@ -10,7 +10,7 @@ use Rattle.ckr_points.specs.Rows.{RunRow, TablesModel, holding_of, run_of, step_
 use Rattle.ckr_points.specs.declared.run.RunState.TheVariants.{On}
 use Rattle.ckr_points_tables.specs.View.{seen_by}
 use Rattle.ckr_desk_turn.specs.Queue.{AreNumbered}
-use Rattle.ckr_desk_memory.specs.declared.jobs.RunningStep.{RunningStep}
+use Rattle.ckr_desk_plans.specs.declared.running_step.RunningStep.{RunningStep}
 use Rattle.ckr_desk_memory.specs.EventChanges.{HasEntered, check_name_in, is_point_of, served_in, without_run}
 use Rattle.ckr_desk_memory.specs.Invariant.{IsAcceptedRow}
 use Rattle.ckr_desk_memory.specs.Preparation.{HasAgain, HasStep, IsEmpty}

@@ -8,7 +8,7 @@ use Rattle.ckr_library.specs.Catalog.{Holding, fresh_holding, set_of}
 use Rattle.ckr_library.specs.NameMaps.{Name, Named, entry_at, has_entry, with_entry}
 use Rattle.ckr_meaning.specs.EffectiveJob.{OwnedStep, is_among, names_of}
 use Rattle.ckr_points.specs.Rows.{TableSet}
-use Rattle.ckr_steps.specs.declared.step_run.StepRun.{StepRun}
+use Rattle.ckr_desk_plans.specs.StepTypes.StepRun.{StepRun}
 use Rattle.ckr_desk_memory.specs.EventChanges.{without_run}
 use Rattle.ckr_desk_memory.specs.View.{RunningStepView}
 

@@ -1,28 +1,16 @@
 -- The jobs of a desk in memory, and what a turn sees of them.
-use Rattle.std.specs.Prelude.{ℕ, List, [], map, None, Option}
+use Rattle.std.specs.Prelude.{ℕ, List, [], map, None}
 use Rattle.std.specs.Option.{option_map_or}
-use Rattle.ckr_points_library.specs.Commit.{output_names}
-use Rattle.ckr_base.specs.declared.code.Code.{Code}
-use Rattle.ckr_library.specs.Catalog.{Catalog, Holding}
-use Rattle.ckr_library.specs.NameMaps.{Name, Named, entry_at}
 use Rattle.ckr_meaning.specs.EffectiveJob.{OwnedStep}
-use Rattle.ckr_points.specs.Restart.{place_of, step_in}
-use Rattle.ckr_points.specs.Rows.{RunRow, TablesModel, run_of, step_of_run}
-use Rattle.ckr_steps.specs.declared.step_run.StepRun.{StepRun}
-use Rattle.ckr_steps.specs.Files.{files_of}
-use Rattle.ckr_steps.specs.Units.{due_of, first_state, taken_of}
+use Rattle.ckr_points.specs.Rows.{TablesModel, run_of}
+use Rattle.ckr_desk_plans.specs.StepTypes.StepRun.{StepRun}
+use Rattle.ckr_desk_plans.specs.Model.Files.{files_of}
+use Rattle.ckr_desk_plans.specs.Model.Units.{due_of, first_state, taken_of}
 use Rattle.ckr_points_tables.specs.View.{RoomyTables}
 use Rattle.ckr_desk_turn.specs.declared.failed_run.FailedRun.{FailedRun}
 use Rattle.ckr_desk_turn.specs.Jobs.{TurnJobs, TurnStep, as_stopped}
 use Rattle.ckr_desk_memory.specs.declared.jobs.StepPoint.{StepPoint}
-
--- a running step: its run, its program, its data sets with the lengths that they have by now, and the code with which its run waits for the operator's
--- word, if it does
-pub record RunningStepView : Type 0 where
-  pub run : ℕ
-  pub step : StepRun
-  pub sets : Catalog
-  pub code : Option Code
+pub use Rattle.ckr_desk_plans.specs.StepView.{RunningStepView, length_in, lengths_in, lengths_of_row}
 
 -- a step of a run of this root, at its beginning
 abbrev pub begun : ℕ → OwnedStep → StepRun
@@ -48,16 +36,6 @@ pub record JobsView : Type 0 where
   pub points_room : ℕ
 
 -- ---- a running step as a turn sees it
-
-abbrev pub length_in : Named Holding → Name → ℕ
-length_in sets name = option_map_or (λ (holding : Holding). holding.set.length) (entry_at sets name) 0
-
--- the lengths of its outputs, in the order of their DDs
-abbrev pub lengths_in : Named Holding → ℕ → OwnedStep → List ℕ
-lengths_in sets root owned = map (length_in sets) (output_names root owned)
-
-abbrev pub lengths_of_row : Named Holding → RunRow → List ℕ
-lengths_of_row sets row = option_map_or (lengths_in sets row.job.root) (step_of_run row (step_in (place_of row))) []
 
 abbrev pub running_of : TablesModel → RunningStepView → TurnStep
 running_of tables on = as_stopped on.code (record {

@@ -13,9 +13,9 @@ ghost use Rattle.ckr_desk_memory.specs.Parts.{step_seen};
 ghost use Rattle.ckr_desk_memory.specs.Plans.{HasCounts};
 ghost use Rattle.ckr_desk_memory.specs.Preparation.{HasAgain, HasPointRoom, HasQueueRoom, IsPrepared};
 ghost use Rattle.ckr_desk_memory.specs.View.{PointView};
-ghost use Rattle.ckr_steps.specs.StepUnit.{AreCounted};
+ghost use Rattle.ckr_desk_plans.specs.Model.StepUnit.{AreCounted};
 ghost use Rattle.ckr_desk_memory.specs.Rewrite.{HasRecordPlace};
-ghost use Rattle.ckr_desk_memory.specs.declared.jobs.RunningStep.{RunningStep as StepOnIt};
+ghost use Rattle.ckr_desk_plans.specs.declared.running_step.RunningStep.{RunningStep as StepOnIt};
 ghost use Rattle.ckr_library.specs.Catalog.{records_of};
 ghost use Rattle.ckr_points.specs.Follows.{follows};
 ghost use Rattle.ckr_points.specs.Restart.{after_event};
@@ -27,11 +27,11 @@ ghost use Rattle.ckr_volumes.specs.declared.layout.Layout.{Layout as LayoutOfDis
 
 use crate::found_run::first_on;
 use crate::lines::is_on;
-use crate::run_code::place_of;
 use crate::served::{enter, serve};
 use crate::start::{start_again, start_prepared};
 use crate::{Jobs, Prepared, RunningStep, StepPoint};
 use ckr_base::DsName;
+use ckr_desk_plans::place_of;
 use ckr_desk_turn::FailedRun;
 use ckr_events::Event;
 use ckr_jcl::Job;

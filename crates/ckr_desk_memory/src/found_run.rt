@@ -11,7 +11,7 @@ ghost use Rattle.ckr_desk_memory.specs.OwnSteps.{HoldTheirOwn};
 ghost use Rattle.ckr_desk_memory.specs.Parts.{step_seen};
 ghost use Rattle.ckr_desk_memory.specs.Plans.{reached_seen, row_for, HasCounts, IsKnown};
 ghost use Rattle.ckr_desk_memory.specs.View.{jobs_of, RunningStepView};
-ghost use Rattle.ckr_desk_memory.specs.declared.jobs.RunningStep.{RunningStep as StepOnIt};
+ghost use Rattle.ckr_desk_plans.specs.declared.running_step.RunningStep.{RunningStep as StepOnIt};
 ghost use Rattle.ckr_meaning.specs.EffectiveJob.{OwnedStep};
 ghost use Rattle.ckr_points.specs.Payload.{writes_in};
 ghost use Rattle.ckr_points.specs.Rows.{run_of, step_of_run, RunRow};
@@ -21,9 +21,9 @@ ghost use Rattle.ckr_desk_turn.specs.declared.failed_run.FailedRun.{FailedRun as
 ghost use Rattle.ckr_desk_turn.specs.Queue.{AreNumbered};
 ghost use Rattle.ckr_volumes.specs.declared.layout.Layout.{Layout as LayoutOfDisk};
 
-use crate::run_code::{CodePlace, Extents, lengths_of, place_of};
 use crate::{Jobs, RunningStep};
 use ckr_base::{Code, Name8};
+use ckr_desk_plans::{CodePlace, Extents, lengths_of, place_of};
 use ckr_desk_turn::FailedRun;
 use ckr_jcl::Dd;
 use ckr_meaning::Place;

@@ -6,28 +6,15 @@ ghost use Rattle.ckr_desk_memory.specs.OwnSteps.{AreLeft, HoldTheirOwn};
 ghost use Rattle.ckr_desk_memory.specs.Lines.{AreNumberedLines};
 ghost use Rattle.ckr_desk_memory.specs.Parts.{step_seen};
 
-use ckr_base::Code;
+use crate::RunningStep;
 use ckr_desk_turn::FailedRun;
 use ckr_entry::State;
 use ckr_library::Library;
 use ckr_points::Run;
 use ckr_points_tables::Tables;
 use ckr_queue::Queue;
-use ckr_steps::StepRun;
 use std::alloc::Global;
 use std::marker::Model;
-
-/// A running step.
-#[derive(Drop)]
-pub struct RunningStep {
-    /// The number of its run.
-    pub run: u32,
-    pub step: StepRun,
-    /// Its data sets, with the lengths that they have by now; the tables keep those that are committed.
-    pub sets: Library,
-    /// The code with which its run waits for the operator's word, if it does; the step has stopped then.
-    pub code: Option<Code>,
-}
 
 /// Where the step of a run stands at its checkpoint in effect.
 #[derive(Drop)]

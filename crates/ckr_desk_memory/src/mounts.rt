@@ -13,15 +13,14 @@ ghost use Rattle.ckr_desk_turn.specs.declared.failed_run.FailedRun.{FailedRun as
 ghost use Rattle.ckr_queue.specs.Units.{is_volume_list};
 
 use crate::Jobs;
-use crate::run_code::place_of;
 use arrayvec::ArrayVec;
 use ckr_base::DsName;
+use ckr_desk_plans::{Refusal, place_of};
 use ckr_desk_turn::{Cause, Plan, Reply, Taking};
 use ckr_events::{Event, Made};
 use ckr_jcl::Dd;
 use ckr_library::{DataSet, Library};
 use ckr_points::step_in;
-use ckr_points_library::Refusal;
 use ckr_points_tables::{OwnStep, step_at};
 use ckr_uses::library_name;
 use ckr_volumes::Layout;

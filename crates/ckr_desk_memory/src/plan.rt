@@ -2,109 +2,32 @@
 ghost use Rattle.std.specs.Prelude.{◌≡◌, ◌≤◌, true, IfErr, IfOk, IsSome, None, Some, length};
 ghost use Rattle.std.specs.List.{AllByRecursion};
 ghost use Rattle.std.specs.Option.{option_map_or};
-ghost use Rattle.ckr_events.specs.declared.event.Event.TheVariants.{StepEnded as StepEndedEvent};
 ghost use Rattle.ckr_desk_memory.specs.Invariant.{AreJobs, IsAcceptedRow};
 ghost use Rattle.ckr_desk_memory.specs.OwnSteps.{AreLeft, HoldTheirOwn, PlanCommits, PlanFollows, PlanLeaves};
 ghost use Rattle.ckr_desk_memory.specs.Plans.{next_step, row_for, HasCounts, HasDd, HasDue, IsAnyCode, IsKnown, IsSpelledPlan, NeedsRoom};
-ghost use Rattle.ckr_desk_memory.specs.View.{jobs_of, lengths_of_row};
+ghost use Rattle.ckr_desk_memory.specs.View.{jobs_of};
 ghost use Rattle.ckr_meaning.specs.EffectiveJob.{OwnedStep};
 ghost use Rattle.ckr_points.specs.Follows.{own_step};
 ghost use Rattle.ckr_points.specs.Restart.{place_of as place_of_row, step_in as step_in_place};
 ghost use Rattle.ckr_points.specs.Rows.{run_of, step_of_run, RunRow};
-ghost use Rattle.ckr_steps.specs.StepUnit.{AreCounted};
-ghost use Rattle.ckr_points_tables.specs.RunJobs.{effective, IsFitting};
 ghost use Rattle.ckr_desk_turn.specs.Codes.{code_plan, initiator_of, reached_by};
 ghost use Rattle.ckr_desk_turn.specs.Invariant.{IsTurnOf};
-ghost use Rattle.ckr_desk_turn.specs.Jobs.{is_failed, running_in, step_name_of, waiting_code};
-ghost use Rattle.ckr_desk_turn.specs.Plans.{allocation_ended, between_plan, checkpoint_plan, chosen_plan, fail_plan, free_plan, plan_of, cancelled_plan, run_plan, running_plan, suppressed_plan, waiting_plan};
+ghost use Rattle.ckr_desk_turn.specs.Jobs.{is_failed, running_in, waiting_code};
+ghost use Rattle.ckr_desk_turn.specs.Plans.{allocation_ended, between_plan, chosen_plan, fail_plan, free_plan, plan_of, run_plan, running_plan, waiting_plan};
 ghost use Rattle.ckr_desk_turn.specs.Queue.{AreNumbered};
 ghost use Rattle.ckr_desk_turn.specs.Spelling.{IsCode};
 
-use crate::deferred::queued_plan;
+use crate::Jobs;
 use crate::found_run::SYSTEM_FAILURE;
-use crate::run_code::{Extents, Seat, code_plan, is_suppressed, lengths_of, name_within, place_of};
-use crate::{Jobs, RunningStep};
 use ckr_base::{Code, Name8, NextDue, NoMemory};
-use ckr_desk_turn::{
-    Chkpt, How, Plan, Reply, Turn, allocation_event, cancelled_event, completed_event,
-    started_event, step_ended_event,
+use ckr_desk_plans::{
+    Refusal, Seat, cancelled, checkpoint_due, code_plan, place_of, queued_plan, step_ended,
 };
+use ckr_desk_turn::{How, Plan, Reply, Turn, allocation_event, completed_event, started_event};
 use ckr_meaning::Place;
-use ckr_points::step_in;
-use ckr_points_library::Refusal;
-use ckr_points_tables::{RunTable, step_at};
+use ckr_points_tables::RunTable;
 use ckr_queue::Selection;
 use ckr_volumes::Layout;
-
-/// A running step has ended with this return code. Its run is within that step.
-fn step_ended(on: &RunningStep, run: u32, table: &RunTable, rc: u16) -> Plan
-    requires run { run ≤ 9999999 }
-    requires there { IsSome (own_step (row_for run table.now)) }
-    requires fits { IsFitting (effective run table.now.job) }
-    requires counted { AreCounted on.now.step }
-    ensures plan { let row = row_for run table.now in result ≡ Plan.Tell (Reply.StepEnded run (step_name_of row) rc) (StepEndedEvent run (step_in_place (place_of_row row)) rc on.now.step.writes (record { items = lengths_of_row on.now.sets.sets row })) }
-    ensures spelled { IsSpelledPlan result }
-{
-    Plan::Tell {
-        reply: Reply::StepEnded {
-            job: run,
-            step: name_within(run, table),
-            rc,
-        },
-        event: step_ended_event(
-            run,
-            step_in(place_of(table)),
-            rc,
-            on.step.progress().writes,
-            lengths_of(&Extents::Now(&on.sets), run, table),
-        ),
-    }
-}
-
-/// A checkpoint is due, and the RD in effect suppresses it.
-fn suppressed(run: u32, table: &RunTable) -> Plan
-    requires there { IsSome (own_step (row_for run table.now)) }
-    ensures plan { result ≡ suppressed_plan (row_for run table.now) }
-    ensures spelled { IsSpelledPlan result }
-{
-    Plan::Pass {
-        job: run,
-        reply: Reply::Checkpointed {
-            job: run,
-            step: name_within(run, table),
-            code: Chkpt::Suppressed,
-            id: None,
-        },
-    }
-}
-
-/// A checkpoint is due: the RD in effect suppresses it, or it is taken.
-fn checkpoint_due(run: u32, table: &RunTable) -> Plan
-    requires there { IsSome (own_step (row_for run table.now)) }
-    ensures plan { let row = row_for run table.now in result ≡ checkpoint_plan row (step_in_place (place_of_row row)) }
-    ensures spelled { IsSpelledPlan result }
-{
-    if is_suppressed(table) {
-        suppressed(run, table)
-    } else {
-        Plan::Take { job: run }
-    }
-}
-
-/// A cancel is due.
-fn cancelled(run: u32, table: &RunTable) -> Plan
-    requires there { IsSome (own_step (row_for run table.now)) }
-    ensures plan { result ≡ cancelled_plan (row_for run table.now) }
-    ensures spelled { IsSpelledPlan result }
-{
-    Plan::Tell {
-        reply: Reply::Cancelled {
-            job: run,
-            step: name_within(run, table),
-        },
-        event: cancelled_event(run),
-    }
-}
 
 impl Jobs {
     /// What a turn of an initiator comes to. Nothing has changed behind it, in either case. A system failure comes first, then the code with which

@@ -7,23 +7,22 @@ ghost use Rattle.ckr_desk_memory.specs.Invariant.{AreJobs, IsAcceptedRow};
 ghost use Rattle.ckr_desk_memory.specs.Parts.{IsPointCounted};
 ghost use Rattle.ckr_desk_memory.specs.Preparation.{needs_room, HasAgain, HasTaken, HasQueueRoom, HasStep, IsEmpty, IsPrepared, IsPreparedFor, StandsEmpty};
 ghost use Rattle.ckr_desk_memory.specs.View.{begun, resumed};
-ghost use Rattle.ckr_steps.specs.StepUnit.{AreCounted};
+ghost use Rattle.ckr_desk_plans.specs.Model.StepUnit.{AreCounted};
 ghost use Rattle.ckr_programs.specs.Ranges.{IsInRange};
 ghost use Rattle.ckr_points_tables.specs.Invariant.{HasRoom, IsAnySubmittable, MaySubmit};
 ghost use Rattle.ckr_points_tables.specs.Rooms.{IsRoomier};
 ghost use Rattle.ckr_points_tables.specs.RunJobs.{own_of};
 ghost use Rattle.ckr_volumes.specs.declared.layout.Layout.{Layout as LayoutOfDisk};
 
-use crate::run_code::place_of;
 use crate::{Jobs, RunningStep, StepPoint};
 use ckr_base::NoMemory;
+use ckr_desk_plans::{StepRun, place_of};
 use ckr_desk_turn::Inquiry;
 use ckr_events::Event;
 use ckr_jcl::Job;
 use ckr_library::Library;
 use ckr_points::step_in;
 use ckr_points_tables::{OwnStep, step_at};
-use ckr_steps::StepRun;
 use ckr_uses::{Uses, uses_of};
 use std::alloc::Global;
 

@@ -8,10 +8,10 @@ ghost use Rattle.ckr_points.specs.Follows.{follows};
 
 use crate::{Jobs, shared_deck};
 use ckr_base::NoMemory;
+use ckr_desk_plans::{follows, may_count};
 use ckr_desk_turn::job_of_kept;
 use ckr_events::Event;
 use ckr_jcl::Job;
-use ckr_points_follows::{follows, may_count};
 use ckr_points_tables::Tables;
 use ckr_volumes::Layout;
 use std::alloc::Global;

@@ -8,8 +8,8 @@ ghost use Rattle.ckr_points.specs.Rows.{run_of, RunRow};
 ghost use Rattle.ckr_points_tables.specs.RunJobs.{effective, IsFitting};
 
 use crate::Jobs;
-use crate::run_code::place_of;
 use ckr_base::DsName;
+use ckr_desk_plans::place_of;
 use ckr_points::step_in;
 use ckr_points_tables::{RunTable, master_dd, step_at};
 use ckr_uses::library_name;

@@ -1,8 +1,8 @@
 //! What is due of a running step is done, and an entry is written or none.
 ghost use Rattle.std.specs.Prelude.{◌≡◌, Some, map, nat_lt};
 ghost use Rattle.std.specs.List.{AllByRecursion};
-ghost use Rattle.ckr_steps.specs.StepUnit.{AreCounted};
-ghost use Rattle.ckr_steps.specs.Units.{entries_of};
+ghost use Rattle.ckr_desk_plans.specs.Model.StepUnit.{AreCounted};
+ghost use Rattle.ckr_desk_plans.specs.Model.Units.{entries_of};
 ghost use Rattle.ckr_desk_memory.specs.EventChanges.{served_in, with_entry_end, HasEntered, IsEntered};
 ghost use Rattle.ckr_desk_memory.specs.Invariant.{AreJobs};
 ghost use Rattle.ckr_desk_memory.specs.OwnSteps.{HoldTheirOwn};

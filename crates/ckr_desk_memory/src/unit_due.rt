@@ -10,8 +10,8 @@ ghost use Rattle.ckr_desk_turn.specs.Plans.{is_within, plan_of, run_plan};
 ghost use Rattle.ckr_volumes.specs.declared.layout.Layout.{Layout as LayoutOfDisk};
 
 use crate::Jobs;
-use crate::run_code::place_of;
 use ckr_base::{Code, NextDue};
+use ckr_desk_plans::place_of;
 use ckr_desk_turn::{Plan, Turn};
 use ckr_meaning::Place;
 use ckr_points_tables::RunTable;

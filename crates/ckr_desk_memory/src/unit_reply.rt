@@ -1,65 +1,27 @@
 //! What a turn tells of a unit that was worked out.
-ghost use Rattle.std.specs.Prelude.{◌≡◌, ◌≤◌, [], ◌∷◌, IfSome, IsSome, Some};
+ghost use Rattle.std.specs.Prelude.{◌≡◌, [], ◌∷◌, Some};
 ghost use Rattle.std.specs.List.{AllByRecursion};
 ghost use Rattle.ckr_base.specs.declared.programs.Heads.{Heads as HeadsOfInputs};
-ghost use Rattle.ckr_events.specs.Format.{length_list};
-ghost use Rattle.ckr_desk_memory.specs.Extents.{IsShort};
+ghost use Rattle.ckr_desk_plans.specs.Extents.{IsShort};
 ghost use Rattle.ckr_desk_memory.specs.Invariant.{IsAcceptedRow, IsPlacedRow};
 ghost use Rattle.ckr_desk_memory.specs.OwnSets.{IsRunningOf};
 ghost use Rattle.ckr_desk_memory.specs.OwnSteps.{PlanCommits, PlanFollows, PlanIsOf, PlanLeaves};
 ghost use Rattle.ckr_desk_memory.specs.Parts.{step_seen};
-ghost use Rattle.ckr_desk_memory.specs.Plans.{behind_unit, reached_seen, row_for, told_by, IsSpelledPlan, IsToldReply, IsUnitPlan, IsWent, IsWorkedCode};
+ghost use Rattle.ckr_desk_memory.specs.Plans.{behind_unit, told_by, IsSpelledPlan, IsToldReply, IsUnitPlan, IsWent, IsWorkedCode};
 ghost use Rattle.ckr_desk_memory.specs.Start.{AllFit};
-ghost use Rattle.ckr_desk_memory.specs.View.{lengths_of_row, running_of};
+ghost use Rattle.ckr_desk_memory.specs.View.{running_of};
 ghost use Rattle.ckr_meaning.specs.EffectiveJob.{OwnedStep};
-ghost use Rattle.ckr_points.specs.Follows.{own_step};
 ghost use Rattle.ckr_points.specs.Restart.{place_of as place_of_row, step_in as step_in_place};
 ghost use Rattle.ckr_points.specs.Rows.{run_of, step_of_run, RunRow};
-ghost use Rattle.ckr_steps.specs.Inputs.{AreThere};
-ghost use Rattle.ckr_steps.specs.StepUnit.{behind_ahead, AreCounted, IsUnitFor};
-ghost use Rattle.ckr_steps.specs.Units.{taken_of};
-ghost use Rattle.ckr_points_tables.specs.RunJobs.{effective, IsFitting};
-ghost use Rattle.ckr_desk_turn.specs.Jobs.{step_name_of};
+ghost use Rattle.ckr_desk_plans.specs.Model.Inputs.{AreThere};
+ghost use Rattle.ckr_desk_plans.specs.Model.StepUnit.{behind_ahead, AreCounted, IsUnitFor};
 ghost use Rattle.ckr_desk_turn.specs.Queue.{AreNumbered};
 ghost use Rattle.ckr_volumes.specs.declared.layout.Layout.{Layout as LayoutOfDisk};
 
-use crate::run_code::{CodePlace, Extents, Seat, code_plan, lengths_of, place_of};
 use crate::{Jobs, RunningStep};
+use ckr_desk_plans::{Seat, UnitAhead, Worked, code_plan, reached_by, worked_reply};
 use ckr_desk_turn::{Plan, Reply, rewritten_event};
-use ckr_points::step_in;
-use ckr_points_tables::{RunTable, step_at};
-use ckr_steps::{UnitAhead, Worked};
 use ckr_volumes::Layout;
-
-/// The reply to a unit of a running step that goes on. None where its run is within no step of its deck.
-fn worked_reply(on: &RunningStep, ahead: &UnitAhead, table: &RunTable) -> Option<Reply>
-    requires { AreCounted (behind_ahead on.now.step ahead.now) }
-    ensures reply { let row = row_for on.now.run table.now in (own : OwnedStep) → step_of_run row (step_in_place (place_of_row row)) ≡ Some own → result ≡ Some (Reply.Worked on.now.run (step_name_of row) (taken_of (behind_ahead on.now.step ahead.now).state)) }
-    ensures told { IfSome result IsToldReply }
-    ensures there { IfSome result (λ _. IsSome (own_step (row_for on.now.run table.now))) }
-{
-    let own = step_at(&table.job, on.run, step_in(place_of(table)))?;
-    Some(Reply::Worked {
-        job: on.run,
-        step: own.step.name.copied(),
-        taken: on.step.progress_behind(ahead).taken,
-    })
-}
-
-/// How far a running step comes by a unit that was worked out.
-fn reached_by(on: &RunningStep, ahead: &UnitAhead, table: &RunTable) -> CodePlace
-    requires run { on.now.run ≤ 9999999 }
-    requires fits { IsFitting (effective on.now.run table.now.job) }
-    requires counted { AreCounted (behind_ahead on.now.step ahead.now) }
-    requires short { IsShort on.now.sets }
-    ensures reached { let moved = behind_unit (step_seen on.now) ahead.now in reached_seen result ≡ record { writes = moved.step.writes; lengths = lengths_of_row moved.sets.sets (row_for on.now.run table.now) } }
-    ensures fits { length_list.fits result.lengths.items }
-{
-    CodePlace {
-        writes: on.step.progress_behind(ahead).writes,
-        lengths: lengths_of(&Extents::Behind(on, ahead), on.run, table),
-    }
-}
 
 impl Jobs {
     /// The reply to a unit that was worked out and isn't done yet, behind which the step goes on: what the turn tells of it, and that alone.

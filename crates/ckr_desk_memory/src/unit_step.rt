@@ -7,7 +7,7 @@ ghost use Rattle.ckr_desk_memory.specs.Invariant.{AreJobs, IsRunnable};
 ghost use Rattle.ckr_desk_memory.specs.OwnSets.{IsRunningOf};
 ghost use Rattle.ckr_desk_memory.specs.OwnSteps.{HoldTheirOwn, IsOfOther};
 ghost use Rattle.ckr_desk_memory.specs.Parts.{step_seen};
-ghost use Rattle.ckr_desk_memory.specs.declared.jobs.RunningStep.{RunningStep as StepOnIt};
+ghost use Rattle.ckr_desk_plans.specs.declared.running_step.RunningStep.{RunningStep as StepOnIt};
 ghost use Rattle.ckr_volumes.specs.declared.layout.Layout.{Layout as LayoutOfDisk};
 
 use crate::start::put_first;

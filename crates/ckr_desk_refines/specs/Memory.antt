@@ -8,6 +8,7 @@ pub use Rattle.ckr_desk_memory.specs.Holders
 pub use Rattle.ckr_desk_memory.specs.Invariant
 pub use Rattle.ckr_desk_memory.specs.Lines
 pub use Rattle.ckr_desk_memory.specs.Model.Cause
+pub use Rattle.ckr_desk_memory.specs.Model.Checkpoint
 pub use Rattle.ckr_desk_memory.specs.Model.Refusal
 pub use Rattle.ckr_desk_memory.specs.Model.RewriteCounts
 pub use Rattle.ckr_desk_memory.specs.MountMemory
@@ -20,5 +21,4 @@ pub use Rattle.ckr_desk_memory.specs.Replay
 pub use Rattle.ckr_desk_memory.specs.Rewrite
 pub use Rattle.ckr_desk_memory.specs.RunningSteps
 pub use Rattle.ckr_desk_memory.specs.View
-pub use Rattle.ckr_desk_memory.specs.declared.checkpoint.Checkpoint
 pub use Rattle.ckr_desk_memory.specs.declared.preparation.Prepared

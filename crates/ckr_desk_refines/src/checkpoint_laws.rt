@@ -8,7 +8,7 @@ ghost use Rattle.ckr_meaning.specs.States.{StandsFor};
 ghost use Rattle.ckr_meaning.specs.StepRun.{StepStart};
 ghost use Rattle.ckr_points.specs.Rows.{RunRow};
 ghost use Rattle.ckr_desk_memory.specs.Checkpoints.{IsCheckpointOf};
-ghost use Rattle.ckr_desk_memory.specs.declared.checkpoint.Checkpoint.{Checkpoint};
+ghost use Rattle.ckr_desk_memory.specs.Model.Checkpoint.{Checkpoint};
 ghost use Rattle.ckr_desk_memory.specs.EntryModels.{IsAsFar};
 ghost use Rattle.ckr_desk_memory.specs.EntryTypes.{IsTyped};
 ghost use Rattle.ckr_desk_memory.specs.View.{JobsView, RunningStepView};

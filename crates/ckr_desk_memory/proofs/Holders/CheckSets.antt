@@ -13,7 +13,7 @@ use Rattle.ckr_meaning.specs.Allotments.{is_output}
 use Rattle.ckr_meaning.specs.EffectiveJob.{OwnedStep, is_among, name_of}
 use Rattle.ckr_points.specs.Tables.{is_checkpoints, name_with_role}
 use Rattle.ckr_points_invariant.proofs.Library.Entries.{among-filter_map, is_name}
-use Rattle.ckr_points_library.specs.Commit.{output_names}
+use Rattle.ckr_desk_plans.specs.Model.Commit.{output_names}
 use Rattle.ckr_points_tables.specs.Checkpoint.{checkpoint_name}
 use Rattle.ckr_desk_turn.proofs.Checkpoints.Events.{checks-output}
 

@@ -13,10 +13,10 @@ use Rattle.ckr_points.specs.Restart.{place_of, step_in}
 use Rattle.ckr_points.specs.Rows.{RunRow, TableSet, TablesModel, run_of}
 use Rattle.ckr_points.specs.Tables.{after_checkpointed, committed, fresh_effect, is_checkpoints, is_updates, name_with_role}
 use Rattle.ckr_points_invariant.proofs.Writes.Likeness.{committed-other}
-use Rattle.ckr_points_library.specs.Commit.{output_names}
+use Rattle.ckr_desk_plans.specs.Model.Commit.{output_names}
 use Rattle.ckr_points_tables.specs.Checkpoint.{checkpoint_name}
-use Rattle.ckr_steps.specs.Units.{entries_of, program_of}
-use Rattle.ckr_steps.specs.declared.step_run.StepRun.{StepRun}
+use Rattle.ckr_desk_plans.specs.Model.Units.{entries_of, program_of}
+use Rattle.ckr_desk_plans.specs.StepTypes.StepRun.{StepRun}
 use Rattle.ckr_desk_memory.proofs.Holders.CheckSets.{check-among, check-named, not-among}
 use Rattle.ckr_desk_memory.proofs.Holders.Masters.{updated-not_output}
 use Rattle.ckr_desk_memory.proofs.Holders.Moves.{row-accepted, row-as_is, row-next}

@@ -25,7 +25,7 @@ use Rattle.ckr_points.specs.Restart.{after_continued_at, after_entry_continued, 
 use Rattle.ckr_points.specs.RuleCases.{has_present_marks, is_ended}
 use Rattle.ckr_points.specs.Rows.{EffectPoint, KeptEntry, RunRow, StartPoint, TableSet, TablesModel, run_of, step_of_run, with_run}
 use Rattle.ckr_points.specs.Tables.{fresh_effect}
-use Rattle.ckr_points_library.specs.Commit.{output_names}
+use Rattle.ckr_desk_plans.specs.Model.Commit.{output_names}
 use Rattle.ckr_points_invariant.specs.JobNames.{AreKin}
 use Rattle.ckr_points_invariant.specs.EarlierRuns.{IsEntryOf, MayContinue}
 use Rattle.ckr_points_invariant.proofs.Continuations.EarlierRun.{Coming, row_then, sets_then}

@@ -22,7 +22,8 @@ use Rattle.ckr_points.specs.Tables.{after_cancelled, after_checkpointed, after_r
 use Rattle.ckr_points_invariant.proofs.WaitingRuns.{tested-run}
 use Rattle.ckr_points_tables.specs.Invariant.{is_submission}
 use Rattle.ckr_volumes.specs.declared.layout.Layout.{Layout}
-use Rattle.ckr_desk_memory.proofs.Holders.Events.{by-some, others-stay}
+use Rattle.ckr_desk_memory.proofs.Holders.Events.{others-stay}
+use Rattle.ckr_desk_memory.proofs.Holders.RowTests.{by-some}
 use Rattle.ckr_desk_memory.proofs.Holders.Submissions.{row-more}
 use Rattle.ckr_desk_memory.proofs.Holders.Moves.{by-own, by-row, row-as_is, row-next}
 use Rattle.ckr_desk_memory.specs.EventChanges.{failed_in}

@@ -22,7 +22,7 @@ use Rattle.ckr_points_invariant.proofs.Library.Entries.{among-filter_map, is_nam
 use Rattle.ckr_points_invariant.proofs.Rewrite.Invariant.{updated-name}
 use Rattle.ckr_points_invariant.proofs.Rewrite.Sets.{updated-out}
 use Rattle.ckr_points_invariant.proofs.Writes.Roles.{IsTarget, dd_role, formed-roles, target, target-named}
-use Rattle.ckr_points_library.specs.Commit.{output_names}
+use Rattle.ckr_desk_plans.specs.Model.Commit.{output_names}
 use Rattle.ckr_desk_memory.specs.Holders.{changed_names, is_changed}
 
 role_updates : (program : Kind) (dd : Name) → output_dd program (InPlace 0) ≡ Some dd → role_of program dd ≡ Updates

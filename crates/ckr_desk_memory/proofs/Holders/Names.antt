@@ -35,7 +35,7 @@ use Rattle.ckr_points_invariant.proofs.Holders.SharedSets.{shared_role}
 use Rattle.ckr_points_invariant.proofs.Holders.Uses.{names-used, none-exclusive, shared-left}
 use Rattle.ckr_points_invariant.proofs.Library.Entries.{among-filter_map, is_name}
 use Rattle.ckr_points_invariant.proofs.Writes.Roles.{changes_records}
-use Rattle.ckr_points_library.specs.Commit.{output_names}
+use Rattle.ckr_desk_plans.specs.Model.Commit.{output_names}
 use Rattle.ckr_uses.specs.Uses.{holds, is_shared, leaves, uses_of}
 use Rattle.ckr_desk_turn.proofs.Start.Decks.{IsOfDeck, of-deck}
 use Rattle.ckr_desk_turn.specs.Invariant.{IsAdmittedStep}

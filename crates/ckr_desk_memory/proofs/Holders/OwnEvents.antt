@@ -15,7 +15,7 @@ use Rattle.ckr_points_invariant.proofs.Rewrite.Invariant.{update-is}
 use Rattle.ckr_volumes.specs.Layouts.{StandsIn}
 use Rattle.arrayvec.specs.ArrayVec.{ArrayVec}
 use Rattle.ckr_base.specs.declared.record.Rec.{Rec}
-use Rattle.ckr_steps.specs.declared.files.Files.{Files}
+use Rattle.ckr_desk_plans.specs.StepTypes.Files.{Files}
 use Rattle.ckr_base.proofs.Numbers.{equal-from, nat_le-from}
 use Rattle.ckr_base.proofs.Options.{some-not-none}
 use Rattle.ckr_events.specs.declared.event.Ending.{Ending}
@@ -41,8 +41,8 @@ use Rattle.ckr_points.specs.Restart.{place_of, step_in}
 use Rattle.ckr_points.specs.Rows.{RunRow, TableSet, TablesModel, run_of}
 use Rattle.ckr_points.specs.Tables.{is_updates, name_with_role}
 use Rattle.ckr_points.specs.declared.run.RunState.TheVariants.{On, Released}
-use Rattle.ckr_points_library.specs.Commit.{output_names}
-use Rattle.ckr_steps.specs.Files.{dd_in, files_of, set_of_source, source_by, source_in}
+use Rattle.ckr_desk_plans.specs.Model.Commit.{output_names}
+use Rattle.ckr_desk_plans.specs.Model.Files.{dd_in, files_of, set_of_source, source_by, source_in}
 use Rattle.ckr_uses.specs.SetNames.{origin_name}
 use Rattle.ckr_volumes.specs.declared.layout.Layout.{Layout}
 use Rattle.ckr_desk_memory.proofs.Holders.Moves.{row-accepted}

@@ -20,10 +20,10 @@ use Rattle.ckr_points.specs.Rows.{RunRow, TableSet, TablesModel, cut_set, run_of
 use Rattle.ckr_points.specs.Tables.{after_rewritten, committed, row_rewritten, is_updates, name_with_role, table_rewritten}
 use Rattle.ckr_points.specs.Payload.{is_formed_step}
 use Rattle.ckr_points_invariant.proofs.Writes.Likeness.{committed-other}
-use Rattle.ckr_points_library.specs.Commit.{output_names}
-use Rattle.ckr_steps.specs.Units.{first_state, program_of, served_of, state_for}
-use Rattle.ckr_steps.specs.Files.{files_of}
-use Rattle.ckr_steps.specs.declared.step_run.StepRun.{StepRun}
+use Rattle.ckr_desk_plans.specs.Model.Commit.{output_names}
+use Rattle.ckr_desk_plans.specs.Model.Units.{first_state, program_of, served_of, state_for}
+use Rattle.ckr_desk_plans.specs.Model.Files.{files_of}
+use Rattle.ckr_desk_plans.specs.StepTypes.StepRun.{StepRun}
 use Rattle.ckr_base.specs.declared.programs.NextDue.{NextDue}
 use Rattle.ckr_base.specs.declared.programs.NextDue.TheVariants.{Unit, Checkpoint, Cancel, Finished}
 use Rattle.ckr_entry.specs.declared.point.State.{State}

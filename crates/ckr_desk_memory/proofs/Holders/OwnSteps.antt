@@ -22,7 +22,8 @@ use Rattle.ckr_points_invariant.proofs.WaitingRuns.{tested-run}
 use Rattle.ckr_points_tables.specs.Invariant.{MaySubmit}
 use Rattle.ckr_points_tables.specs.View.{RoomyTables}
 use Rattle.ckr_volumes.specs.declared.layout.Layout.{Layout}
-use Rattle.ckr_desk_memory.proofs.Holders.Events.{by-some, holders-none, holders-stay, no-row}
+use Rattle.ckr_desk_memory.proofs.Holders.Events.{holders-none, holders-stay, no-row}
+use Rattle.ckr_desk_memory.proofs.Holders.RowTests.{by-some}
 use Rattle.ckr_desk_memory.proofs.Holders.Moves.{by-row, row-as_is, row-next}
 use Rattle.ckr_desk_memory.proofs.Holders.OwnSets.{running-served}
 use Rattle.ckr_desk_memory.proofs.Holders.Points.{points-stay}
@@ -33,7 +34,7 @@ use Rattle.ckr_base.proofs.Options.{option_map_or-true, some-not-none}
 use Rattle.ckr_desk_memory.proofs.Replays.{any_accepted, any_submits, goes-on-with}
 use Rattle.ckr_desk_memory.proofs.RunningSteps.First.{all-without}
 use Rattle.ckr_desk_memory.proofs.RunningSteps.TakenSteps.{is-taken}
-use Rattle.ckr_desk_memory.specs.declared.jobs.RunningStep.{RunningStep}
+use Rattle.ckr_desk_plans.specs.declared.running_step.RunningStep.{RunningStep}
 use Rattle.ckr_desk_memory.specs.EventChanges.{FirstEnters, HasEntered, check_name_in, is_of_run, is_point_of, points_behind, served_in, served_step, without_first, without_run}
 use Rattle.ckr_desk_memory.specs.Holders.{AreHolders}
 use Rattle.ckr_desk_memory.specs.Invariant.{AreJobs, IsAcceptedRow, IsAnyAccepted, IsPlacedRow}

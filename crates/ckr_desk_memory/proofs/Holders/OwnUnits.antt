@@ -17,15 +17,15 @@ use Rattle.ckr_points.specs.declared.run.RunState.TheVariants.{On}
 use Rattle.ckr_points.specs.Follows.{is_in_state, is_running, is_within, state_number}
 use Rattle.ckr_points.specs.Restart.{place_of, step_in}
 use Rattle.ckr_points.specs.Rows.{RunRow, TablesModel, run_of, step_of_run}
-use Rattle.ckr_points_library.specs.Commit.{output_names}
+use Rattle.ckr_desk_plans.specs.Model.Commit.{output_names}
 use Rattle.ckr_points_tables.specs.Checkpoint.{checkpoint_name}
 use Rattle.ckr_rules.specs.RuleTables.{rule_number}
-use Rattle.ckr_steps.specs.Inputs.{AreThere}
-use Rattle.ckr_steps.specs.StepUnit.{HasDone, IsUnitFor}
-use Rattle.ckr_steps.specs.Writes.{grown}
-use Rattle.ckr_steps.specs.declared.step_run.Worked.{Worked}
-use Rattle.ckr_steps.specs.declared.step_run.Worked.TheVariants.{Abend, Rewrite, Went}
-use Rattle.ckr_steps.specs.declared.unit_ahead.UnitAhead.{UnitAhead}
+use Rattle.ckr_desk_plans.specs.Model.Inputs.{AreThere}
+use Rattle.ckr_desk_plans.specs.Model.StepUnit.{HasDone, IsUnitFor}
+use Rattle.ckr_desk_plans.specs.Model.Writes.{grown}
+use Rattle.ckr_desk_plans.specs.StepTypes.Worked.{Worked}
+use Rattle.ckr_desk_plans.specs.StepTypes.Worked.TheVariants.{Abend, Rewrite, Went}
+use Rattle.ckr_desk_plans.specs.StepTypes.UnitAhead.{UnitAhead}
 use Rattle.ckr_volumes.specs.declared.layout.Layout.{Layout}
 use Rattle.ckr_desk_turn.specs.declared.failed_run.FailedRun.{FailedRun}
 use Rattle.ckr_desk_turn.specs.declared.plan.Plan.{Plan}

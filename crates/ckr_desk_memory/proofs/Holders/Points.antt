@@ -43,7 +43,8 @@ use Rattle.ckr_desk_memory.specs.OwnSets.{CommitsItsOwn, IsRunningOf}
 use Rattle.ckr_desk_memory.specs.OwnSteps.{HasPoint, HavePoints, KnowsItsPoint}
 use Rattle.ckr_desk_memory.specs.RunningSteps.{GoesOn}
 use Rattle.ckr_desk_memory.specs.View.{PointView, RunningStepView}
-use Rattle.ckr_desk_memory.proofs.Holders.Events.{by-some, others-stay}
+use Rattle.ckr_desk_memory.proofs.Holders.Events.{others-stay}
+use Rattle.ckr_desk_memory.proofs.Holders.RowTests.{by-some}
 use Rattle.ckr_desk_memory.proofs.Holders.Submissions.{row-before}
 use Rattle.ckr_desk_memory.proofs.Holders.Moves.{HasRow, by-own, by-row, row-as_is, row-next}
 use Rattle.ckr_desk_memory.proofs.Invariant.{hand-in_step, idle-between, in_step-within, not-within, restarts-in_step, running-in_step}

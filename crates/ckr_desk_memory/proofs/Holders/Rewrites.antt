@@ -30,14 +30,14 @@ use Rattle.ckr_programs.specs.Records.{can_take}
 use Rattle.ckr_programs.specs.Steps as plain_steps
 use Rattle.ckr_programs.specs.Work.{to_main}
 use Rattle.ckr_programs.specs.declared.state.ProgState.{ProgState}
-use Rattle.ckr_steps.specs.Files.{set_of_source}
-use Rattle.ckr_steps.specs.StepUnit.{done_for, worked_for, writes_for}
-use Rattle.ckr_steps.specs.Units.{program_of, unit_of}
+use Rattle.ckr_desk_plans.specs.Model.Files.{set_of_source}
+use Rattle.ckr_desk_plans.specs.Model.StepUnit.{done_for, worked_for, writes_for}
+use Rattle.ckr_desk_plans.specs.Model.Units.{program_of, unit_of}
 use Rattle.ckr_meaning.specs.Program.{fitting}
-use Rattle.ckr_steps.specs.Writes.{answer_of, rewrite_first, rewrite_in, rewrite_of, worked_by, done_of, done_unless, room_of}
-use Rattle.ckr_steps.specs.declared.step_run.StepRun.{StepRun}
-use Rattle.ckr_steps.specs.declared.step_run.Worked.{Worked}
-use Rattle.ckr_steps.specs.declared.step_run.Worked.TheVariants.{Abend, Rewrite, Went}
+use Rattle.ckr_desk_plans.specs.Model.Writes.{answer_of, rewrite_first, rewrite_in, rewrite_of, worked_by, done_of, done_unless, room_of}
+use Rattle.ckr_desk_plans.specs.StepTypes.StepRun.{StepRun}
+use Rattle.ckr_desk_plans.specs.StepTypes.Worked.{Worked}
+use Rattle.ckr_desk_plans.specs.StepTypes.Worked.TheVariants.{Abend, Rewrite, Went}
 
 -- ---- the program
 

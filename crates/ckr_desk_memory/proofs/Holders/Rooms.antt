@@ -13,14 +13,14 @@ use Rattle.ckr_library.proofs.Named.{at-with_changed, name-same}
 use Rattle.ckr_library.specs.Catalog.{Catalog, Holding}
 use Rattle.ckr_library.specs.NameMaps.{Name, Named, entry_at, same_name, with_changed}
 use Rattle.ckr_meaning.specs.Program.{OutputRoom, fitting, room_after, room_behind}
-use Rattle.ckr_steps.proofs.LaterWrites.{room_left, there_grown}
-use Rattle.ckr_steps.proofs.Rooms.{main_fits, rejects_fit}
-use Rattle.ckr_steps.proofs.UnitWrites.{done_fits-for}
-use Rattle.ckr_steps.specs.Inputs.{AreStored, AreThere}
-use Rattle.ckr_steps.specs.StepUnit.{HasDone, done_for}
-use Rattle.ckr_steps.specs.Writes.{end_set, grown, grown_in, longer, room_at, room_of, room_of_set}
-use Rattle.ckr_steps.specs.declared.files.Files.{Files}
-use Rattle.ckr_steps.specs.declared.step_run.Worked.{Worked}
+use Rattle.ckr_desk_plans.proofs.LaterWrites.{room_left, there_grown}
+use Rattle.ckr_desk_plans.proofs.Rooms.{main_fits, rejects_fit}
+use Rattle.ckr_desk_plans.proofs.UnitWrites.{done_fits-for}
+use Rattle.ckr_desk_plans.specs.Model.Inputs.{AreStored, AreThere}
+use Rattle.ckr_desk_plans.specs.Model.StepUnit.{HasDone, done_for}
+use Rattle.ckr_desk_plans.specs.Model.Writes.{end_set, grown, grown_in, longer, room_at, room_of, room_of_set}
+use Rattle.ckr_desk_plans.specs.StepTypes.Files.{Files}
+use Rattle.ckr_desk_plans.specs.StepTypes.Worked.{Worked}
 use Rattle.ckr_volumes.specs.declared.layout.Layout.{Layout}
 use Rattle.ckr_desk_memory.specs.Start.{AllFit}
 use Rattle.ckr_desk_memory.specs.View.{RunningStepView}

@@ -24,14 +24,15 @@ use Rattle.ckr_points.specs.Restart.{after_event, by_step, kept_at, place_of, st
 use Rattle.ckr_points.specs.Rows.{RunRow, TableSet, TablesModel, run_of, step_of_run}
 use Rattle.ckr_points.specs.Tables.{after_cancelled, after_checkpointed, after_rewritten, after_started, after_submitted, is_checkpoints, name_with_role}
 use Rattle.ckr_points_invariant.proofs.WaitingRuns.{tested-run}
-use Rattle.ckr_points_library.specs.Commit.{output_names}
+use Rattle.ckr_desk_plans.specs.Model.Commit.{output_names}
 use Rattle.ckr_points_tables.specs.Checkpoint.{checkpoint_name}
 use Rattle.ckr_points_tables.specs.Invariant.{MaySubmit, is_submission}
 use Rattle.ckr_volumes.specs.declared.layout.Layout.{Layout}
 use Rattle.ckr_desk_memory.proofs.Extents.{tested as tested-of, tested-step}
 use Rattle.ckr_desk_memory.proofs.Holders.Checkpoints.{check-behind, running-entered}
 use Rattle.ckr_desk_memory.proofs.Holders.Continuations.{continued-goes}
-use Rattle.ckr_desk_memory.proofs.Holders.Events.{any-goes, by-some, holders-stay}
+use Rattle.ckr_desk_memory.proofs.Holders.Events.{any-goes, holders-stay}
+use Rattle.ckr_desk_memory.proofs.Holders.RowTests.{by-some}
 use Rattle.ckr_desk_memory.proofs.Holders.Submissions.{row-more}
 use Rattle.ckr_desk_memory.proofs.Holders.Moves.{by-own, by-row, row-as_is, row-next}
 use Rattle.ckr_desk_memory.proofs.Holders.OwnSets.{running-again, running-new, running-other, running-rewritten, running-same, running-served}
@@ -48,7 +49,7 @@ use Rattle.ckr_desk_turn.specs.Queue.{AreNumbered}
 use Rattle.ckr_desk_turn.proofs.Queue.Events.{run_number}
 use Rattle.ckr_desk_memory.specs.Holders.{AreHolders}
 use Rattle.ckr_desk_memory.specs.OwnSteps.{HavePoints, KnowsItsPoint}
-use Rattle.ckr_steps.specs.Units.{program_of}
+use Rattle.ckr_desk_plans.specs.Model.Units.{program_of}
 use Rattle.ckr_base.specs.declared.code.Code.{Code}
 use Rattle.ckr_desk_memory.specs.OwnSets.{AreUpTo, CommitsItsOwn, IsCommitted, IsCommittedWith, IsOfOther, IsRunningOf}
 use Rattle.ckr_desk_memory.proofs.RunningSteps.First.{all-without}

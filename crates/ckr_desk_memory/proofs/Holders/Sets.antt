@@ -27,7 +27,7 @@ use Rattle.ckr_points_invariant.proofs.Marks.Points.{own_made-out}
 use Rattle.ckr_points_invariant.proofs.PutBack.Sets.{at-removed_all, put_back-apart}
 use Rattle.ckr_points_invariant.proofs.StepEnd.Disposals.{flawless-first, flawless-rest, makes}
 use Rattle.ckr_points_invariant.proofs.Writes.Likeness.{committed-other}
-use Rattle.ckr_points_library.specs.Commit.{output_names}
+use Rattle.ckr_desk_plans.specs.Model.Commit.{output_names}
 use Rattle.ckr_desk_memory.proofs.Holders.Masters.{updated-among}
 
 -- ---- what stays there

@@ -34,17 +34,17 @@ use Rattle.ckr_points.specs.Rows.{TableSet, TablesModel, run_of}
 use Rattle.ckr_points.specs.Tables.{is_updates, name_with_role}
 use Rattle.ckr_points_invariant.proofs.Writes.Roles.{is_right, target-among}
 use Rattle.ckr_points_invariant.proofs.Rewrite.Invariant.{update-is}
-use Rattle.ckr_points_library.specs.Commit.{output_names}
+use Rattle.ckr_desk_plans.specs.Model.Commit.{output_names}
 use Rattle.ckr_programs.specs.Steps as plain_steps
 use Rattle.ckr_programs.specs.Records.{can_take}
 use Rattle.ckr_programs.specs.declared.state.ProgState.{ProgState}
-use Rattle.ckr_steps.specs.Files.{dd_in, dd_of_rejects, files_of, set_in}
-use Rattle.ckr_steps.specs.StepUnit.{HasDone, behind_unit, done_for}
-use Rattle.ckr_steps.specs.Units.{program_of, state_of}
-use Rattle.ckr_steps.specs.Writes.{end_set, grown, grown_in, longer}
-use Rattle.ckr_steps.specs.declared.files.Files.{Files}
-use Rattle.ckr_steps.specs.declared.step_run.StepRun.{StepRun}
-use Rattle.ckr_steps.specs.declared.step_run.Worked.{Worked}
+use Rattle.ckr_desk_plans.specs.Model.Files.{dd_in, dd_of_rejects, files_of, set_in}
+use Rattle.ckr_desk_plans.specs.Model.StepUnit.{HasDone, behind_unit, done_for}
+use Rattle.ckr_desk_plans.specs.Model.Units.{program_of, state_of}
+use Rattle.ckr_desk_plans.specs.Model.Writes.{end_set, grown, grown_in, longer}
+use Rattle.ckr_desk_plans.specs.StepTypes.Files.{Files}
+use Rattle.ckr_desk_plans.specs.StepTypes.StepRun.{StepRun}
+use Rattle.ckr_desk_plans.specs.StepTypes.Worked.{Worked}
 use Rattle.ckr_desk_memory.proofs.Holders.Moves.{row-accepted}
 use Rattle.ckr_desk_memory.proofs.Holders.Names.{step-formed}
 use Rattle.ckr_desk_memory.proofs.Holders.Masters.{updated-not_output}

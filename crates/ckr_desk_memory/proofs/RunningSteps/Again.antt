@@ -14,7 +14,7 @@ use Rattle.ckr_meaning.specs.declared.place.Place.TheVariants.{Before, Opened, W
 use Rattle.ckr_points.specs.declared.run.RunState.TheVariants.{On, Released}
 use Rattle.ckr_points.specs.Follows.{follows, is_free, is_in_state, is_running, is_within, may_restart_again, own_step}
 use Rattle.ckr_points.specs.Marks.{put_back}
-use Rattle.ckr_points_library.specs.Commit.{output_names}
+use Rattle.ckr_desk_plans.specs.Model.Commit.{output_names}
 use Rattle.ckr_points.specs.Restart.{after_event, after_restarted, by_step, kept_at, place_of, step_in}
 use Rattle.ckr_points.specs.Rows.{EffectPoint, RunRow, TablesModel, run_of, step_of_run}
 use Rattle.ckr_volumes.specs.declared.layout.Layout.{Layout}

@@ -12,12 +12,12 @@ use Rattle.ckr_library.specs.Catalog.{Catalog, Holding, set_of, with_length}
 use Rattle.ckr_library.specs.NameMaps.{Name, Named, entry_at, same_name, with_changed}
 use Rattle.ckr_library.specs.declared.sets.DataSet.{DataSet}
 use Rattle.ckr_points_invariant.proofs.Library.Extents.{stands_as}
-use Rattle.ckr_steps.proofs.Counts.{served_counted}
-use Rattle.ckr_steps.proofs.Rooms.{there_kept}
-use Rattle.ckr_steps.specs.Inputs.{AreStored, AreThere}
-use Rattle.ckr_steps.specs.StepUnit.{AreCounted}
-use Rattle.ckr_steps.specs.Units.{entries_of}
-use Rattle.ckr_steps.specs.declared.step_run.StepRun.{StepRun}
+use Rattle.ckr_desk_plans.proofs.Counts.{served_counted}
+use Rattle.ckr_desk_plans.proofs.Rooms.{there_kept}
+use Rattle.ckr_desk_plans.specs.Model.Inputs.{AreStored, AreThere}
+use Rattle.ckr_desk_plans.specs.Model.StepUnit.{AreCounted}
+use Rattle.ckr_desk_plans.specs.Model.Units.{entries_of}
+use Rattle.ckr_desk_plans.specs.StepTypes.StepRun.{StepRun}
 use Rattle.ckr_volumes.specs.Layouts.{StandsIn, lie_apart}
 use Rattle.ckr_volumes.specs.declared.layout.Layout.{Layout}
 use Rattle.ckr_desk_memory.specs.EventChanges.{FirstEnters, HasEntered, IsEntered, has_space, is_of_run, with_entry_end, without_first}

@@ -4,7 +4,7 @@ use Rattle.std.proofs.lemmas.Option.{same_Some, slice_get-map, slice_get_within}
 use Rattle.std.specs.List.{AllByRecursion}
 use Rattle.std.specs.Option.{option_eq, option_map}
 use Rattle.std.specs.Prelude.{IfSome, find, nat_eq}
-use Rattle.ckr_steps.specs.declared.step_run.StepRun.{StepRun}
+use Rattle.ckr_desk_plans.specs.StepTypes.StepRun.{StepRun}
 use Rattle.ckr_base.proofs.Bools.{and-second}
 use Rattle.ckr_base.proofs.Options.{some-not-none, some-one}
 use Rattle.ckr_base.specs.declared.code.Code.{Code}
@@ -22,10 +22,10 @@ use Rattle.ckr_points.specs.Follows.{are_items, follows, is_empty, is_free, is_i
 use Rattle.ckr_points.specs.Restart.{after_event, place_of, step_in}
 use Rattle.ckr_points.specs.Rows.{RunRow, TablesModel, holding_of, run_of, standing_of, step_of_run, table_ways}
 use Rattle.ckr_points.specs.Soundness.{AreLaidOut}
-use Rattle.ckr_steps.specs.StepUnit.{AreCounted}
+use Rattle.ckr_desk_plans.specs.Model.StepUnit.{AreCounted}
 use Rattle.ckr_points_tables.specs.View.{seen_by}
 use Rattle.ckr_desk_turn.specs.Queue.{AreNumbered}
-use Rattle.ckr_desk_memory.specs.declared.jobs.RunningStep.{RunningStep}
+use Rattle.ckr_desk_plans.specs.declared.running_step.RunningStep.{RunningStep}
 use Rattle.ckr_desk_memory.specs.EventChanges.{check_name_in, is_point_of}
 use Rattle.ckr_desk_memory.specs.RunningSteps.{GoesOn, IsStartedFrom, MayGoBack, MayRun, StepGoesBack}
 use Rattle.ckr_desk_memory.specs.Invariant.{AreJobs, IsAcceptedRow, IsAnyAccepted, IsPlacedRow, IsRunnable}

@@ -6,7 +6,7 @@ use Rattle.std.specs.Prelude.{IfSome}
 use Rattle.ckr_base.proofs.Numbers.{one-plus}
 use Rattle.ckr_base.proofs.Sequences.{find-holds}
 use Rattle.ckr_volumes.specs.declared.layout.Layout.{Layout}
-use Rattle.ckr_desk_memory.specs.declared.jobs.RunningStep.{RunningStep}
+use Rattle.ckr_desk_plans.specs.declared.running_step.RunningStep.{RunningStep}
 use Rattle.ckr_desk_memory.proofs.FoundRuns.{find-map}
 use Rattle.ckr_desk_memory.specs.EventChanges.{is_of_run, without_first}
 use Rattle.ckr_desk_memory.specs.Parts.{step_seen}

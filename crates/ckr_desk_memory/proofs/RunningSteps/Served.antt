@@ -6,7 +6,7 @@ use Rattle.std.specs.Option.{option_map_or}
 use Rattle.ckr_base.proofs.Options.{some-not-none}
 use Rattle.ckr_base.proofs.Sequences.{find-holds}
 use Rattle.ckr_points.specs.Soundness.{AreLaidOut}
-use Rattle.ckr_steps.proofs.Counts.{served_counted}
+use Rattle.ckr_desk_plans.proofs.Counts.{served_counted}
 use Rattle.ckr_points_tables.specs.View.{RoomyTables}
 use Rattle.ckr_volumes.specs.declared.layout.Layout.{Layout}
 use Rattle.ckr_desk_memory.specs.EventChanges.{is_of_run, served_in, served_step, without_first}

@@ -16,7 +16,7 @@ use Rattle.ckr_points.specs.Restart.{after_continued_at, after_entry_continued, 
 use Rattle.ckr_points.specs.Rows.{KeptEntry, RunRow, TableSet, TablesModel, run_of, step_of_run, with_row, with_run}
 use Rattle.ckr_points.specs.Soundness.{AreLaidOut}
 use Rattle.ckr_points.specs.Tables.{fresh_effect}
-use Rattle.ckr_points_library.specs.Commit.{output_names}
+use Rattle.ckr_desk_plans.specs.Model.Commit.{output_names}
 use Rattle.ckr_points_invariant.proofs.Continuations.EarlierRun.{Coming, row_then}
 use Rattle.ckr_points_invariant.proofs.Continuations.Follows.{after-selected, may-continue}
 use Rattle.ckr_points_invariant.proofs.PutBack.Sets.{put_back-laid}

@@ -18,8 +18,8 @@ use Rattle.ckr_points_tables.specs.Model.RunTable.{RunTable}
 use Rattle.ckr_points_tables.specs.Model.OwnStep.{OwnStep}
 use Rattle.ckr_points_tables.specs.RunJobs.{own_of}
 use Rattle.ckr_points_tables.specs.View.{seen_by}
-use Rattle.ckr_steps.specs.declared.step_run.StepRun.{StepRun}
-use Rattle.ckr_desk_memory.specs.declared.jobs.RunningStep.{RunningStep}
+use Rattle.ckr_desk_plans.specs.StepTypes.StepRun.{StepRun}
+use Rattle.ckr_desk_plans.specs.declared.running_step.RunningStep.{RunningStep}
 use Rattle.ckr_desk_memory.specs.Parts.{step_seen}
 use Rattle.ckr_desk_memory.specs.Plans.{IsKnown}
 use Rattle.ckr_desk_memory.specs.Preparation.{HasAgain, HasStep, IsEmpty}

@@ -17,14 +17,14 @@ use Rattle.ckr_match.specs.Images.{has_transactions}
 use Rattle.ckr_meaning.specs.EffectiveJob.{is_among, name_of, names_of}
 use Rattle.ckr_meaning.specs.StepRun.{StepStart, dd_named, input_names, main_names, output_name, rejects_dd}
 use Rattle.ckr_meaning.proofs.Room.{AreApart, outputs_apart}
-use Rattle.ckr_steps.specs.declared.files.RecordSource.{RecordSource}
-use Rattle.ckr_steps.specs.declared.files.RecordSource.TheVariants.{Nowhere, InDeck, InSet}
-use Rattle.ckr_steps.specs.Files.{dd_in, files_of, input_dd, set_in, source_in}
-use Rattle.ckr_steps.specs.Inputs.{AreSameSet, AreThere, IsSetThere, IsSourceThere}
-use Rattle.ckr_steps.specs.Places.{HasFewCards, files_at}
-use Rattle.ckr_steps.proofs.NextHeads.{among_names, found_among, source_named}
-use Rattle.ckr_steps.proofs.Names.{is_there}
-use Rattle.ckr_steps.proofs.LaterWrites.{main_is, rejects_are}
+use Rattle.ckr_desk_plans.specs.StepTypes.RecordSource.{RecordSource}
+use Rattle.ckr_desk_plans.specs.StepTypes.RecordSource.TheVariants.{Nowhere, InDeck, InSet}
+use Rattle.ckr_desk_plans.specs.Model.Files.{dd_in, files_of, input_dd, set_in, source_in}
+use Rattle.ckr_desk_plans.specs.Model.Inputs.{AreSameSet, AreThere, IsSetThere, IsSourceThere}
+use Rattle.ckr_desk_plans.specs.Model.Places.{HasFewCards, files_at}
+use Rattle.ckr_desk_plans.proofs.NextHeads.{among_names, found_among, source_named}
+use Rattle.ckr_desk_plans.proofs.Names.{is_there}
+use Rattle.ckr_desk_plans.proofs.LaterWrites.{main_is, rejects_are}
 
 -- each name of the step has a data set
 abbrev pub AreNamesThere : StepStart → Catalog → Type 0

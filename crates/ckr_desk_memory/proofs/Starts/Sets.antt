@@ -30,11 +30,11 @@ use Rattle.ckr_points.specs.declared.run.RunState.TheVariants.{On}
 use Rattle.ckr_points.specs.Restart.{after_event, place_of}
 use Rattle.ckr_points.specs.Rows.{RunRow, TableSet, TablesModel, run_of, standing_of, step_of_run, table_ways}
 use Rattle.ckr_points.specs.Soundness.{AreLaidOut}
-use Rattle.ckr_steps.specs.declared.step_run.StepRun.{StepRun}
-use Rattle.ckr_steps.specs.Files.{dd_in, files_of, input_dd, source_by, source_in}
-use Rattle.ckr_steps.specs.Inputs.{AreThere}
-use Rattle.ckr_steps.specs.Places.{HasFewCards, files_at}
-use Rattle.ckr_steps.specs.StepUnit.{AreCounted}
+use Rattle.ckr_desk_plans.specs.StepTypes.StepRun.{StepRun}
+use Rattle.ckr_desk_plans.specs.Model.Files.{dd_in, files_of, input_dd, source_by, source_in}
+use Rattle.ckr_desk_plans.specs.Model.Inputs.{AreThere}
+use Rattle.ckr_desk_plans.specs.Model.Places.{HasFewCards, files_at}
+use Rattle.ckr_desk_plans.specs.Model.StepUnit.{AreCounted}
 use Rattle.ckr_desk_turn.specs.DeckLimits.{HasNamesOnce}
 use Rattle.ckr_desk_turn.proofs.Decks.JobForm.{steps_once}
 use Rattle.ckr_desk_memory.specs.Plans.{IsAnyCode}

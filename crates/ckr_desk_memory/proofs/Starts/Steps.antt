@@ -26,7 +26,7 @@ use Rattle.ckr_points_tables.specs.Model.RunTable.{RunTable}
 use Rattle.ckr_points_tables.specs.RunJobs.{effective, own_of}
 use Rattle.ckr_points_tables.proofs.RunJobs.{fits-at}
 use Rattle.ckr_points_tables.specs.Invariant.{HasRoom}
-use Rattle.ckr_desk_memory.specs.declared.jobs.RunningStep.{RunningStep}
+use Rattle.ckr_desk_plans.specs.declared.running_step.RunningStep.{RunningStep}
 use Rattle.ckr_desk_memory.specs.Invariant.{IsAcceptedRow}
 use Rattle.ckr_desk_memory.specs.EventChanges.{HasUses, is_point_of}
 use Rattle.ckr_desk_memory.specs.Preparation.{HasAgain, HasPointRoom, HasQueueRoom, HasStarted, HasStep, HasTaken, IsEmpty, IsPrepared, StandsEmpty}

@@ -20,7 +20,7 @@ use Rattle.ckr_points.specs.Tables.{is_checkpoints}
 use Rattle.ckr_steps.specs.Units.{taken_of as taken_in}
 use Rattle.ckr_desk_memory.proofs.EntryModels.{entry-same, next-same}
 use Rattle.ckr_desk_memory.specs.Checkpoints.{IsCheckpointOf, event_in_set}
-use Rattle.ckr_desk_memory.specs.declared.checkpoint.Checkpoint.{Checkpoint}
+use Rattle.ckr_desk_memory.specs.Model.Checkpoint.{Checkpoint}
 use Rattle.ckr_desk_memory.specs.Entries.{entry_bytes, entry_end, entry_in_set, entry_to, fits_in, is_written, next_entry}
 use Rattle.ckr_desk_memory.specs.EntryMarks.{length_behind}
 use Rattle.ckr_desk_memory.specs.EntryModels.{HasCheckRecords, IsAsFar}

@@ -17,7 +17,7 @@ use Rattle.ckr_desk_turn.specs.Turns.{MountedTurn}
 use Rattle.ckr_volumes.specs.declared.layout.Layout.{Layout}
 use Rattle.ckr_volumes.specs.Layouts.{StandsIn}
 use Rattle.ckr_desk_memory.specs.Checkpoints.{IsCheckpointOf}
-use Rattle.ckr_desk_memory.specs.declared.checkpoint.Checkpoint.{Checkpoint}
+use Rattle.ckr_desk_memory.specs.Model.Checkpoint.{Checkpoint}
 use Rattle.ckr_desk_memory.specs.View.{JobsView, RunningStepView}
 use Rattle.ckr_desk_turn.proofs.NextEvents.WithinStep.{by-step}
 use Rattle.ckr_desk_turn.proofs.RunningSteps.{going-within}

@@ -28,7 +28,7 @@ use Rattle.ckr_desk_memory.specs.EventChanges.{is_point_of, without_run}
 use Rattle.ckr_desk_memory.specs.Invariant.{is_in_step}
 use Rattle.ckr_desk_memory.specs.RunningSteps.{StepGoesBack}
 use Rattle.ckr_desk_memory.specs.View.{PointView, RunningStepView}
-use Rattle.ckr_desk_memory.proofs.Holders.Events.{by-some}
+use Rattle.ckr_desk_memory.proofs.Holders.RowTests.{by-some}
 use Rattle.ckr_desk_memory.proofs.Holders.Moves.{by-own, by-row, row-as_is, row-next}
 use Rattle.ckr_desk_turn.specs.Desk.{DeskModel, DeskStep, at_entry, behind, running_again, without_run as without_steps}
 use Rattle.ckr_desk_turn.specs.Invariant.{IsDesk, IsGoing}

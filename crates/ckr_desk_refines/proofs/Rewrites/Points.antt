@@ -17,7 +17,7 @@ use Rattle.ckr_points_invariant.proofs.Readiness.Runs.{kept-entry}
 use Rattle.ckr_points_invariant.proofs.WaitingRuns.{follows-of}
 use Rattle.ckr_desk_memory.specs.Invariant.{is_in_step}
 use Rattle.ckr_desk_memory.specs.View.{PointView, RunningStepView}
-use Rattle.ckr_desk_memory.proofs.Holders.Events.{rewritten-effect}
+use Rattle.ckr_desk_memory.proofs.Holders.RowTests.{rewritten-effect}
 use Rattle.ckr_desk_turn.specs.Desk.{DeskModel}
 use Rattle.ckr_desk_turn.specs.Invariant.{IsDesk}
 use Rattle.ckr_desk_refines.specs.Standing.{OwnStands, PointsStand}

@@ -8,7 +8,7 @@ use Rattle.ckr_library.specs.Catalog.{records_of}
 use Rattle.ckr_library.specs.NameMaps.{Name}
 use Rattle.ckr_desk_memory.specs.EventChanges.{HasEntered, is_point_of, without_run}
 use Rattle.ckr_desk_memory.specs.Preparation.{HasAgain}
-use Rattle.ckr_desk_memory.specs.declared.jobs.RunningStep.{RunningStep}
+use Rattle.ckr_desk_plans.specs.declared.running_step.RunningStep.{RunningStep}
 use Rattle.ckr_points.specs.Rows.{TablesModel}
 use Rattle.ckr_desk_memory.specs.RunningSteps.{GoesOn, IsStartedFrom, MayGoBack, MayRun, StepGoesBack}
 use Rattle.ckr_desk_memory.specs.Parts.{step_seen}

@@ -1,5 +1,5 @@
 use Rattle.std.proofs.Common.{◌-◌, ap, ◌∙◌, slice_get}
-use Rattle.ckr_points_follows.proofs.RunFacts.{line-got}
+use Rattle.ckr_desk_plans.proofs.RunFacts.{line-got}
 use Rattle.ckr_desk_memory.proofs.lines.run_line.Goals as goal
 
 pub returns : goal.returns

@@ -1,5 +1,5 @@
 use Rattle.std.proofs.Common.{List, ◌∷◌, arith, ap, sym, ◌∙◌}
-use Rattle.ckr_desk_memory.specs.declared.jobs.RunningStep.{RunningStep}
+use Rattle.ckr_desk_plans.specs.declared.running_step.RunningStep.{RunningStep}
 use Rattle.ckr_desk_memory.proofs.FoundRuns.{known-of}
 use Rattle.ckr_desk_memory.proofs.Starts.Steps.{few-dds, none-starts}
 use Rattle.ckr_desk_memory.proofs.Starts.NewStep.{has-new}

@@ -2,7 +2,7 @@ use Rattle.std.proofs.Common.{◌<◌, ap, length, get_or, map, remove, Some, su
 use Rattle.std.specs.List.{position}
 use Rattle.ckr_base.proofs.Sequences.{position-none, position-some}
 use Rattle.ckr_desk_memory.specs.Parts.{step_seen}
-use Rattle.ckr_desk_memory.specs.declared.jobs.RunningStep.{RunningStep}
+use Rattle.ckr_desk_plans.specs.declared.running_step.RunningStep.{RunningStep}
 use Rattle.ckr_desk_memory.proofs.RunningSteps.First.{first-found, first-gone, none-found, none-gone, of_run}
 use Rattle.ckr_desk_memory.proofs.unit_step.take_first.Goals as goal
 

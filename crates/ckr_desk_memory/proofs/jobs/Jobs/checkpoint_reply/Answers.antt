@@ -6,7 +6,7 @@ use Rattle.ckr_points_tables.specs.RunJobs.{effective, own_of}
 use Rattle.ckr_points.specs.Restart.{step_in}
 use Rattle.ckr_points.specs.Rows.{RunRow, step_of_run}
 use Rattle.ckr_points.specs.declared.reply.Reply.TheVariants.{Checkpointed}
-use Rattle.ckr_desk_memory.specs.Entries.{next_id, step_now}
+use Rattle.ckr_desk_plans.specs.Entries.{next_id, step_now}
 use Rattle.ckr_desk_turn.specs.Checkpoints.{id_in}
 use Rattle.ckr_desk_memory.proofs.FoundRuns.{known-by}
 use Rattle.ckr_desk_memory.proofs.jobs.Jobs.checkpoint_reply.Goals as goal

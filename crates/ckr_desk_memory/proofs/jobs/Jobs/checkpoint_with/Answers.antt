@@ -8,11 +8,11 @@ use Rattle.ckr_points_tables.proofs.RunJobs.{fits-at}
 use Rattle.ckr_points.specs.Restart.{step_in}
 use Rattle.ckr_points.specs.Rows.{holding_of, step_of_run}
 use Rattle.ckr_points_tables.specs.View.{seen_by}
-use Rattle.ckr_desk_memory.specs.Entries.{step_now}
+use Rattle.ckr_desk_plans.specs.Entries.{step_now}
 use Rattle.ckr_desk_memory.specs.Parts.{step_seen}
 use Rattle.ckr_desk_memory.specs.View.{JobsView}
 use Rattle.ckr_desk_memory.proofs.CheckpointParts.{checkpoint-is, end-most, id-grammar, name-is, own-found}
-use Rattle.ckr_desk_memory.proofs.EntryPoints.{next-none, next-unset, set-none, set-there}
+use Rattle.ckr_desk_plans.proofs.EntryPoints.{next-none, next-unset, set-none, set-there}
 use Rattle.ckr_desk_memory.proofs.FoundRuns.{known-by}
 use Rattle.ckr_desk_memory.proofs.jobs.Jobs.checkpoint_with.Goals as goal
 

@@ -6,7 +6,7 @@ use Rattle.ckr_desk_memory.specs.RunningSteps.{GoesOn, MayRun}
 use Rattle.ckr_desk_memory.specs.EventChanges.{points_behind}
 use Rattle.ckr_desk_memory.specs.Invariant.{AreJobs}
 use Rattle.ckr_desk_memory.specs.Parts.{IsPointCounted, step_seen}
-use Rattle.ckr_desk_memory.specs.declared.jobs.RunningStep.{RunningStep}
+use Rattle.ckr_desk_plans.specs.declared.running_step.RunningStep.{RunningStep}
 use Rattle.ckr_points.specs.Follows.{follows}
 use Rattle.ckr_points.specs.Restart.{after_event}
 use Rattle.ckr_points.specs.Rows.{TablesModel}

@@ -4,9 +4,9 @@ use Rattle.std.proofs.lemmas.Option.{IfSome_then}
 use Rattle.ckr_base.proofs.Sequences.{find-holds}
 use Rattle.ckr_entry.specs.Entry.{spelling}
 use Rattle.ckr_entry.specs.Parts.{entry_of}
-use Rattle.ckr_desk_memory.specs.declared.entry.NextEntry.{NextEntry}
-use Rattle.ckr_desk_memory.specs.Entries.{entry_made}
-use Rattle.ckr_desk_memory.specs.EntryTypes.{IsFormedWithState, IsTyped}
+use Rattle.ckr_desk_plans.specs.declared.entry.NextEntry.{NextEntry}
+use Rattle.ckr_desk_plans.specs.Entries.{entry_made}
+use Rattle.ckr_desk_plans.specs.EntryTypes.{IsFormedWithState, IsTyped}
 use Rattle.ckr_desk_memory.specs.EventChanges.{is_of_run}
 use Rattle.ckr_desk_memory.specs.Invariant.{IsRunnable}
 use Rattle.ckr_desk_memory.specs.OwnSets.{IsRunningOf}

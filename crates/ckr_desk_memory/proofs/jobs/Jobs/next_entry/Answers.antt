@@ -7,11 +7,11 @@ use Rattle.ckr_points_tables.proofs.RunJobs.{fits-at}
 use Rattle.ckr_points.specs.Restart.{step_in}
 use Rattle.ckr_points.specs.Rows.{RunRow, holding_of, run_of, step_of_run}
 use Rattle.ckr_points_tables.specs.View.{line_of, seen_by}
-use Rattle.ckr_desk_memory.specs.Entries.{entry_made, next_entry, step_now}
+use Rattle.ckr_desk_plans.specs.Entries.{entry_made, next_entry, step_now}
 use Rattle.ckr_desk_memory.specs.Parts.{step_seen}
 use Rattle.ckr_desk_memory.specs.View.{JobsView}
-use Rattle.ckr_desk_memory.proofs.EntryPoints.{names-few, told-row}
-use Rattle.ckr_desk_memory.proofs.FoundRuns.{known-by}
+use Rattle.ckr_desk_plans.proofs.EntryPoints.{names-few}
+use Rattle.ckr_desk_memory.proofs.FoundRuns.{known-by, told-row}
 use Rattle.ckr_desk_memory.proofs.jobs.Jobs.next_entry.Goals as goal
 
 pub returns-in_default-step_at-clause-entry : goal.returns-in_default-step_at-clause-entry

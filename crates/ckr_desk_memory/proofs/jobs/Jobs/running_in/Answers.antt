@@ -2,7 +2,7 @@ use Rattle.std.proofs.Common.{◌==◌, find, ap, sym, ◌∙◌, refl}
 use Rattle.std.specs.Option.{option_map}
 use Rattle.ckr_desk_memory.specs.Parts.{step_seen}
 use Rattle.ckr_desk_memory.specs.View.{RunningStepView}
-use Rattle.ckr_desk_memory.specs.declared.jobs.RunningStep.{RunningStep}
+use Rattle.ckr_desk_plans.specs.declared.running_step.RunningStep.{RunningStep}
 use Rattle.ckr_desk_memory.proofs.FoundRuns.{find-map}
 use Rattle.ckr_desk_memory.proofs.jobs.Jobs.running_in.Goals as goal
 

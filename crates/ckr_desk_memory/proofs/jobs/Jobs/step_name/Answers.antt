@@ -3,7 +3,7 @@ use Rattle.std.specs.Option.{is_some, option_map}
 use Rattle.ckr_base.proofs.Options.{some-not-none}
 use Rattle.ckr_meaning.specs.EffectiveJob.{OwnedStep}
 use Rattle.ckr_points_tables.specs.RunJobs.{effective, own_of}
-use Rattle.ckr_desk_memory.proofs.FoundRuns.{first-step}
+use Rattle.ckr_desk_plans.proofs.StepNumbers.{first-step}
 use Rattle.ckr_desk_memory.proofs.Starts.Steps.{step-is}
 use Rattle.ckr_desk_memory.proofs.jobs.Jobs.step_name.Goals as goal
 

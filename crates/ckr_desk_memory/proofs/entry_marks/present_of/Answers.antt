@@ -1,4 +1,0 @@
-use Rattle.ckr_desk_memory.proofs.entry_marks.present_of.Goals as goal
-
-pub returns : goal.returns
-returns c = cc

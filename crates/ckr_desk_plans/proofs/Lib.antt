@@ -1,0 +1,16 @@
+pub use Rattle.ckr_points_follows.proofs.RewriteCounts
+pub use Rattle.ckr_points_follows.proofs.RunFacts
+pub use Rattle.ckr_steps.proofs.Counts
+pub use Rattle.ckr_steps.proofs.LaterWrites
+pub use Rattle.ckr_steps.proofs.Names
+pub use Rattle.ckr_steps.proofs.NextHeads
+pub use Rattle.ckr_steps.proofs.Rooms
+pub use Rattle.ckr_steps.proofs.UnitWrites
+pub mod DeferredPlans
+pub mod EffectEntries
+pub mod EntryLengths
+pub mod EntryModels
+pub mod EntryPoints
+pub mod EntryTypes
+pub mod RuleCases
+pub mod StepNumbers

@@ -1,0 +1,11 @@
+pub mod Checkpoints
+pub mod Entries
+pub mod EntryMarks
+pub mod EntryModels
+pub mod EntryTypes
+pub mod Extents
+pub mod Model
+pub mod PlanEvents
+pub mod Plans
+pub mod StepTypes
+pub mod StepView
