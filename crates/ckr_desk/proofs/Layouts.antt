@@ -11,7 +11,7 @@ use Rattle.ckr_desk_refines.proofs.Memory.LeftRuns.{left-alike}
 use Rattle.ckr_desk_turn.specs.Queue.{AreNumbered}
 use Rattle.ckr_points.specs.Rows.{TablesModel, no_tables}
 use Rattle.ckr_points.specs.Soundness.{AreLaidOut}
-use Rattle.ckr_points_tables.specs.View.{RoomyTables}
+use Rattle.ckr_desk_refines.specs.Tables.View.{RoomyTables}
 use Rattle.ckr_desk_store.specs.Answers.{AppendCause, DiskCause}
 use Rattle.ckr_desk_store.specs.State.{StoreView}
 use Rattle.ckr_desk_store.specs.declared.error.StoreError.{StoreError}

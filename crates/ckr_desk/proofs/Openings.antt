@@ -1,7 +1,6 @@
 pub mod Answers
 pub mod Accepted
-pub mod EntryReads
-pub mod EntryRefusals
+pub mod Refusals
 pub mod Replay
 pub mod Lengths
 pub mod LastRecord

@@ -4,7 +4,8 @@ pub mod Requests
 pub mod MachineRoom
 pub mod Turn
 pub mod Errors
-pub mod Entries
+pub use Rattle.ckr_desk_refines.specs.DiskEntries.Entries
+pub mod Points
 pub mod Opening
 pub mod Replay
 pub mod Soundness

@@ -17,7 +17,7 @@ pub use Rattle.ckr_points.specs.declared.run.Run
 pub use Rattle.ckr_points.specs.declared.run.RunState
 pub use Rattle.ckr_desk_refines.specs.Memory.Cause
 pub use Rattle.ckr_desk_turn.specs.Submissions
-pub use Rattle.ckr_points_tables.specs.View
+pub use Rattle.ckr_desk_refines.specs.Tables.View
 pub use Rattle.ckr_rules.specs.declared.cases.Rule
 pub use Rattle.ckr_volumes.specs.declared.layout.Layout
 pub use Rattle.ckr_volumes.specs.declared.layout.Volume

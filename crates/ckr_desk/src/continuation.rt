@@ -1,48 +1,39 @@
 //! A run that goes on at a checkpoint of an earlier one: before it does, the checkpoint's entry is read from the disk.
-ghost use Rattle.std.specs.Prelude.{◌≡◌, ◌==◌, ◌≤◌, ◌<◌, ◌++◌, IfErr, IfOk, IsSome, IsTrue, OnOk, None, Ok, false, true};
-ghost use Rattle.std.specs.Option.{option_map, option_map_or};
+ghost use Rattle.std.specs.Prelude.{◌≡◌, ◌≤◌, IfErr, IfOk, OnOk, None, true};
+ghost use Rattle.std.specs.Option.{option_map};
 ghost use Rattle.ckr_book.specs.Book.{room_of};
+ghost use Rattle.ckr_desk_refines.specs.DiskEntries.Continuation.{IsEntryRule, there_of};
 ghost use Rattle.ckr_desk_refines.specs.Memory.OwnSteps.{PlanCommits, PlanFollows, PlanLeaves};
 ghost use Rattle.ckr_desk_refines.specs.Memory.Plans.{HasDue, IsSpelledPlan, NeedsRoom};
-ghost use Rattle.ckr_entry.specs.Entry.{IsEntry, entry_in};
-ghost use Rattle.ckr_entry.specs.Parts.{entry_of};
-ghost use Rattle.ckr_jcl.specs.declared.deck.Kind.{Kind as KindOf};
-ghost use Rattle.ckr_library.specs.Catalog.{ends_within};
 ghost use Rattle.ckr_library.specs.NameMaps.{EachEntry};
 ghost use Rattle.ckr_outside.specs.Disk.{OnlyReads};
 ghost use Rattle.ckr_points.specs.Restart.{syschk_name};
 ghost use Rattle.ckr_points.specs.Rows.{TableSet};
-ghost use Rattle.ckr_points.specs.Statements.{kind_number};
 ghost use Rattle.ckr_points.specs.Syschk.{names_its_set};
-ghost use Rattle.ckr_points_tables.specs.Entries.{entry_in as entry_now};
 ghost use Rattle.ckr_rules.specs.RuleTables.{rule_number};
-ghost use Rattle.ckr_steps.specs.EntryRecords.{bytes_on};
-ghost use Rattle.ckr_steps.specs.Units.{program_of};
 ghost use Rattle.ckr_volumes.specs.Layouts.{StandsIn};
-ghost use Rattle.ckr_volumes.specs.Records.{record_at};
 ghost use Rattle.ckr_desk_store.specs.State.{IsSound};
-ghost use Rattle.ckr_desk.specs.Continuation.{GoesOnThere, IsEntryRule, IsPointFound, PlanKnows, continuation_by, continuation_in, denial_plan, entry_there, judged_entry, judged_plan, judged_point, judged_read, judged_there, program_in, there_of, there_under};
+ghost use Rattle.ckr_desk.specs.Continuation.{GoesOnThere, IsPointFound, PlanKnows, continuation_by, continuation_in, denial_plan, entry_there, judged_plan, judged_point, point_by, program_in, there_under};
 ghost use Rattle.ckr_desk.specs.NoChange.{HaveStayed, IsUnchanged, StaysBy};
 ghost use Rattle.ckr_desk.specs.Records.{ReadingCause};
 ghost use Rattle.ckr_desk.specs.Soundness.{state_of};
 ghost use Rattle.ckr_desk.specs.Units.{IsPlanned};
 ghost use Rattle.ckr_desk_turn.specs.Turns.{MountedTurn};
 
-use crate::entry_reads::{ends_within, kind_number, program_of, put, records_of};
-use crate::kept_point::is_as_kept;
+use crate::entries::point_at;
 use crate::{Desk, DeskError};
-use ckr_base::{CheckId, NoMemory};
+use ckr_base::CheckId;
 use ckr_console::Operator;
-use ckr_desk_refines::{StepPoint, entry_of_syschk, run_now, set_of_syschk};
+use ckr_desk_refines::{
+    KeptThere, StepPoint, StepState, Tables, entry_of_syschk, judged_there, run_now, set_of_syschk,
+    step_at,
+};
 use ckr_desk_store::Store;
 use ckr_desk_turn::{Plan, Reply, rule_number};
-use ckr_entry::{EntryError, Point, State, decode_entry};
 use ckr_events::Event;
 use ckr_jcl::{Job, Kind};
-use ckr_library::{DataSet, Kept};
 use ckr_outside::Disk;
 use ckr_points::Denial;
-use ckr_points_tables::{EntryNow, Tables, step_at};
 use ckr_rules::Rule;
 use std::alloc::Global;
 
@@ -53,13 +44,6 @@ pub(crate) struct Continuation {
     earlier: u32,
     step: u8,
     id: CheckId,
-}
-
-/// An entry that a data set keeps.
-#[derive(Clone, Copy)]
-pub(crate) struct KeptThere<'a> {
-    set: &'a DataSet,
-    entry: EntryNow<'a>,
 }
 
 /// The checkpoint at which a run is selected to go on, if it continues an earlier one at a checkpoint.
@@ -138,133 +122,14 @@ fn program_in(tables: &Tables, run: u32, step: u8) -> Option<Kind>
     }
 }
 
-/// Reads the record at a place, and puts its bytes behind those that were read.
-fn read_next<D: Disk>(
-    store: &mut Store<D>,
-    set: &DataSet,
-    place: u32,
-    found: &mut Vec<u8>,
-) -> Result<(), DeskError>
-    requires is_open { store.old.fault ≡ None }
-    requires stands { StandsIn store.old.layout set.now }
-    requires place { place < set.now.space }
-    ensures read { D.told → OnOk result (found.new.items ≡ found.old.items ++ record_at (D.content store.old.disk) store.old.layout set.now place) }
-    ensures kept { OnOk result (store.new ≡ record store.old { disk = store.new.disk }) }
-    ensures sound { IsSound D.content D.may_leave D.size store.new }
-    ensures only_reads { OnlyReads D.content D.may_leave D.moment D.left_since store.old.disk store.new.disk }
-    ensures size { D.size store.new.disk ≡ D.size store.old.disk }
-    ensures faults { D.faults store.old.disk ≤ D.faults store.new.disk }
-    ensures cause { IfErr result (ReadingCause D.faults store.old store.new) }
+/// The point of a run whose step stands so, or the rule.
+fn point_by(run: u32, found: Result<StepState, Rule>) -> Result<StepPoint, Rule>
+    ensures { result ≡ point_by run found }
 {
-    let record = store.read_record(set, place)?;
-    put(found, record.bytes())?;
-    Ok(())
-}
-
-/// The bytes of an entry that has its places in a data set.
-#[tactic(auto, using(crate::proofs::Openings::EntryReads::pieces))]
-fn read_entry<D: Disk>(
-    alloc: Global,
-    store: &mut Store<D>,
-    set: &DataSet,
-    kept: &Kept,
-) -> Result<Vec<u8>, DeskError>
-    requires is_open { store.old.fault ≡ None }
-    requires sound { IsSound D.content D.may_leave D.size store.old }
-    requires stands { StandsIn store.old.layout set.now }
-    requires places { IsTrue (ends_within set.now.space kept.now) }
-    ensures read { D.told → IfOk result (λ found. found.items ≡ bytes_on (D.content store.old.disk) store.old.layout set.now kept.now.place kept.now.bytes) }
-    ensures kept { OnOk result (store.new ≡ record store.old { disk = store.new.disk }) }
-    ensures sound { IsSound D.content D.may_leave D.size store.new }
-    ensures only_reads { OnlyReads D.content D.may_leave D.moment D.left_since store.old.disk store.new.disk }
-    ensures size { D.size store.new.disk ≡ D.size store.old.disk }
-    ensures faults { D.faults store.old.disk ≤ D.faults store.new.disk }
-    ensures cause { IfErr result (ReadingCause D.faults store.old store.new) }
-{
-    let mut found = Vec::new(alloc);
-    for place in 0..records_of(kept.bytes) {
-        read_next(store, set, kept.place + place, &mut found)?;
+    match found {
+        Ok(state) => Ok(point_at(run, state)),
+        Err(rule) => Err(rule),
     }
-    found.truncate(kept.bytes as usize);
-    Ok(found)
-}
-
-/// Whether a state is of a program.
-fn is_of_program(state: &State, program: Option<Kind>) -> bool
-    ensures { result ≡ option_map_or (λ (kind : KindOf). kind_number (program_of state.now) == kind_number kind) program false }
-{
-    match program {
-        Some(kind) => kind_number(program_of(state)) == kind_number(kind),
-        None => false,
-    }
-}
-
-/// The point at which a run goes on, by the point that was read of an entry; or the rule that denies it.
-fn judged_point_read(
-    point: Point,
-    run: u32,
-    entry: &EntryNow<'_>,
-    program: Option<Kind>,
-) -> Result<StepPoint, Rule>
-    requires { IsSome point.id }
-    ensures { result ≡ judged_entry run (entry_now entry.now) program (entry_of point) }
-{
-    if !is_as_kept(&point, entry) {
-        return Err(Rule::D3);
-    }
-    if !is_of_program(&point.state, program) {
-        return Err(Rule::D7);
-    }
-    Ok(StepPoint {
-        run,
-        state: point.state,
-        writes: point.writes,
-    })
-}
-
-/// The same by the bytes of an entry.
-fn judged_bytes(
-    alloc: Global,
-    bytes: &[u8],
-    run: u32,
-    entry: &EntryNow<'_>,
-    program: Option<Kind>,
-) -> Result<Result<StepPoint, Rule>, NoMemory>
-    ensures judged { IfOk result (λ found. found ≡ judged_read run (entry_now entry.now) program (entry_in bytes.now)) }
-    ensures form { OnOk result (IfOk (entry_in bytes.now) IsEntry) }
-{
-    match decode_entry(alloc, bytes) {
-        Ok(point) => Ok(judged_point_read(point, run, entry, program)),
-        Err(EntryError::NoMemory) => Err(NoMemory),
-        Err(EntryError::Bad { .. }) => Ok(Err(Rule::D3)),
-    }
-}
-
-/// The same by what the disk has of an entry, where that has its places.
-fn judged_there<D: Disk>(
-    alloc: Global,
-    store: &mut Store<D>,
-    there: &KeptThere<'_>,
-    run: u32,
-    program: Option<Kind>,
-) -> Result<Result<StepPoint, Rule>, DeskError>
-    requires is_open { store.old.fault ≡ None }
-    requires sound { IsSound D.content D.may_leave D.size store.old }
-    requires stands { StandsIn store.old.layout (there_of there.now).set }
-    ensures judged { D.told → IfOk result (λ found. found ≡ judged_there store.old.layout (D.content store.old.disk) run program (there_of there.now)) }
-    ensures its { IfOk result (IsPointFound run program) }
-    ensures kept { OnOk result (store.new ≡ record store.old { disk = store.new.disk }) }
-    ensures sound { IsSound D.content D.may_leave D.size store.new }
-    ensures only_reads { OnlyReads D.content D.may_leave D.moment D.left_since store.old.disk store.new.disk }
-    ensures size { D.size store.new.disk ≡ D.size store.old.disk }
-    ensures faults { D.faults store.old.disk ≤ D.faults store.new.disk }
-    ensures cause { IfErr result (ReadingCause D.faults store.old store.new) }
-{
-    if !ends_within(there.entry.kept, there.set.space) {
-        return Ok(Err(Rule::D3));
-    }
-    let bytes = read_entry(alloc, store, there.set, there.entry.kept)?;
-    Ok(judged_bytes(alloc, bytes.as_slice(), run, &there.entry, program)?)
 }
 
 /// The point at which a run goes on; or the rule that denies it, also where the entry isn't kept.
@@ -288,7 +153,7 @@ fn judged_point<D: Disk>(
 {
     let program = program_in(tables, at.earlier, at.step);
     match entry_there(tables, at) {
-        Some(there) => judged_there(alloc, store, &there, at.job, program),
+        Some(there) => Ok(point_by(at.job, judged_there(alloc, store, &there, program)?)),
         None => Ok(Err(Rule::D3)),
     }
 }

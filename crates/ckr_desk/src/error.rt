@@ -1,10 +1,11 @@
 //! Why a disk isn't opened, and why a call of the desk did nothing, or not all that was asked.
 ghost use Rattle.std.specs.Prelude.{◌≡◌};
-ghost use Rattle.ckr_desk.specs.Errors.{of_store};
+ghost use Rattle.ckr_desk.specs.Errors.{of_entry, of_store, opening_of_entry};
 ghost use Rattle.ckr_desk.specs.declared.error.OpenError.TheVariants as OpenErrors;
 ghost use Rattle.ckr_desk.specs.declared.error.DeskError.TheVariants.{NoMemory as WithoutMemory};
 
 use ckr_base::NoMemory;
+use ckr_desk_refines::ReadError;
 use ckr_desk_store::StoreError;
 use ckr_outside::Failed;
 use thiserror::Error;
@@ -42,6 +43,17 @@ impl From<StoreError> for DeskError {
             StoreError::DiskFault => DeskError::DiskFault,
             StoreError::BookFull { need, room } => DeskError::BookFull { need, room },
             StoreError::Stopped { fault } => DeskError::Stopped { fault },
+        }
+    }
+}
+
+impl From<ReadError> for DeskError {
+    ghost from_gives = { λ error e. e ≡ of_entry error };
+
+    fn from(error: ReadError) -> Self {
+        match error {
+            ReadError::NoMemory => DeskError::NoMemory,
+            ReadError::Fault => DeskError::DiskFault,
         }
     }
 }
@@ -93,5 +105,16 @@ impl From<Failed> for OpenError {
 
     fn from(_: Failed) -> Self {
         OpenError::Fault
+    }
+}
+
+impl From<ReadError> for OpenError {
+    ghost from_gives = { λ error e. e ≡ opening_of_entry error };
+
+    fn from(error: ReadError) -> Self {
+        match error {
+            ReadError::NoMemory => OpenError::NoMemory,
+            ReadError::Fault => OpenError::Fault,
+        }
     }
 }

@@ -7,10 +7,8 @@ mod continuation;
 mod data_set;
 mod desk;
 mod entries;
-mod entry_reads;
 mod error;
 mod event_bytes;
-mod kept_point;
 mod machine_room;
 mod mount;
 mod opening;
@@ -25,8 +23,10 @@ mod turn;
 mod unit;
 
 pub use desk::Desk;
-pub use entries::entries_are_refused_by_their_bytes;
 pub use error::{DeskError, OpenError, Opening};
+
+// What opening refuses of the entries, where each has its places.
+pub use ckr_desk_refines::entries_are_refused_by_their_bytes;
 
 // What the calls of a desk take and answer, of the crates below.
 pub use ckr_desk_refines::Listed;

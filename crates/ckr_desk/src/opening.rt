@@ -15,7 +15,7 @@ ghost use Rattle.ckr_desk_store.specs.OpenImages.{event_records};
 ghost use Rattle.ckr_volumes.specs.Header.{header_of, IsHeader};
 ghost use Rattle.ckr_volumes.specs.Layouts.{is_laid_out};
 ghost use Rattle.ckr_desk_store.specs.State.{IsSound};
-ghost use Rattle.ckr_desk.specs.Entries.{ArePointsRead};
+ghost use Rattle.ckr_desk.specs.Points.{ArePointsRead};
 ghost use Rattle.ckr_desk.specs.Opening.{by_book, by_entries, opening_of};
 ghost use Rattle.ckr_desk.specs.Calls.{HasSameJobs};
 ghost use Rattle.ckr_desk.specs.FirstSync.{FromSync, IsLeft};

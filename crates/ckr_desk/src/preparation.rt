@@ -7,7 +7,7 @@ ghost use Rattle.ckr_console.specs.Answering.{restart_answer};
 ghost use Rattle.ckr_events.specs.Event.{IsCounted, spelling};
 ghost use Rattle.ckr_desk_refines.specs.Memory.Plans.{IsSpelledPlan};
 ghost use Rattle.ckr_desk_refines.specs.Moves.{event_in};
-ghost use Rattle.ckr_points_tables.specs.Invariant.{MaySubmit};
+ghost use Rattle.ckr_desk_refines.specs.Tables.Invariant.{MaySubmit};
 ghost use Rattle.ckr_desk_turn.specs.Inquiries.{decide, is_ask};
 ghost use Rattle.ckr_desk.specs.Calls.{HasSameJobs};
 ghost use Rattle.ckr_desk.specs.Preparation.{IsPreparedPlan, IsReady, IsReadyFor, NotFit, NotReady, NotReadyFor, NotSettled};

@@ -8,3 +8,4 @@ pub mod Entries
 pub mod Checkpoints
 pub mod Counts
 pub mod Memory
+pub mod DiskEntries

@@ -12,7 +12,9 @@ pub mod RewriteRecord
 pub mod Unit
 pub mod Forecast
 pub mod Entries
-pub mod EntryRefusal
+pub mod InEffect
 pub mod Checkpoints
 pub mod Counts
 pub mod Memory
+pub mod DiskEntries
+pub mod Tables

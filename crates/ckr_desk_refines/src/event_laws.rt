@@ -15,7 +15,7 @@ ghost use Rattle.ckr_desk_turn.specs.Turns.{IsMountedTurnOf, MountedTurn, plan_f
 ghost use Rattle.ckr_desk_turn.specs.Invariant.{IsDesk};
 ghost use Rattle.ckr_desk_refines.specs.Commits.{HasCommitted, HasWithinRun};
 ghost use Rattle.ckr_desk_refines.specs.Entries.{AreOwned, AreWithin, HasEntries, IsWantedRead};
-ghost use Rattle.ckr_desk_refines.specs.EntryRefusal.{AreInEffect};
+ghost use Rattle.ckr_desk_refines.specs.InEffect.{AreInEffect};
 ghost use Rattle.ckr_points.specs.declared.run.RunState.TheVariants.{Held, Queued};
 ghost use Rattle.ckr_points.specs.Rows.{RunRow, run_of};
 ghost use Rattle.ckr_desk_refines.specs.Moves.{HasSameRecords, HasWaited, HaveMoved, KnowsItsEntry};

@@ -52,6 +52,12 @@ pub use unit_laws::{
 
 // The jobs in memory, and what is asked of them, of the crates below.
 pub use ckr_desk_memory::{
-    Checkpoint, Jobs, Prepared, RunningStep, StepPoint, decided, entry_of_syschk, may_count,
-    purged_follows, released_follows, run_now, run_wanting, set_of_syschk, shared_deck,
+    Checkpoint, Jobs, Prepared, RunningStep, StepPoint, Tables, decided, entry_of_syschk,
+    may_count, purged_follows, released_follows, run_now, run_wanting, set_of_syschk, shared_deck,
+    step_at,
+};
+
+// The entries on the disk, as they are read.
+pub use ckr_desk_entries::{
+    KeptThere, ReadError, StepState, effect_state, entries_are_refused_by_their_bytes, judged_there,
 };

@@ -8,7 +8,7 @@ ghost use Rattle.ckr_points.specs.Office.{Office};
 ghost use Rattle.ckr_volumes.specs.declared.layout.Layout.{Layout};
 ghost use Rattle.ckr_desk_refines.specs.Commits.{HasCommitted};
 ghost use Rattle.ckr_desk_refines.specs.Entries.{AreRead, HasEntries};
-ghost use Rattle.ckr_desk_refines.specs.EntryRefusal.{AreInEffect};
+ghost use Rattle.ckr_desk_refines.specs.InEffect.{AreInEffect};
 ghost use Rattle.ckr_desk_refines.specs.Standing.{StandsForDesk, desk_seen};
 
 /// What a turn comes to by the jobs in memory is what it comes to at the desk that they stand for.

@@ -13,7 +13,7 @@ use Rattle.ckr_meaning.specs.EffectiveJob.{OwnedStep, names_of}
 use Rattle.ckr_meaning.specs.StepRun.{StepStart}
 use Rattle.ckr_points.specs.Office.{Office}
 use Rattle.ckr_points.specs.Rows.{RunRow, TablesModel, run_of}
-use Rattle.ckr_points_tables.specs.Checkpoint.{checkpoint_name}
+use Rattle.ckr_desk_refines.specs.Tables.Checkpoint.{checkpoint_name}
 use Rattle.ckr_steps.specs.EntryRecords.{HasEntry, SameRecordsOutside}
 use Rattle.ckr_volumes.specs.declared.layout.Layout.{Layout}
 use Rattle.ckr_volumes.specs.SamePlaces.{SamePlaces}

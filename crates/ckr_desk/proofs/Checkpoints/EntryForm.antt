@@ -14,7 +14,7 @@ use Rattle.ckr_jcl.specs.declared.deck.Parm.{Parm}
 use Rattle.ckr_meaning.specs.EffectiveJob.{OwnedStep}
 use Rattle.ckr_meaning.specs.StepRun.{StepStart, case_at}
 use Rattle.ckr_points.specs.Rows.{RunRow}
-use Rattle.ckr_points_tables.specs.Checkpoint.{checkpoint_name}
+use Rattle.ckr_desk_refines.specs.Tables.Checkpoint.{checkpoint_name}
 use Rattle.ckr_programs.specs.Due.{is_checkpoint_count}
 use Rattle.ckr_desk_refines.proofs.Checkpoints.NextEvent.{entry-is}
 use Rattle.ckr_desk_refines.proofs.Checkpoints.StateForm.{state-form}

@@ -34,7 +34,7 @@ use Rattle.ckr_desk_turn.specs.declared.plan.Plan.{Plan}
 use Rattle.ckr_desk_turn.specs.declared.plan.Plan.TheVariants.{Tell}
 use Rattle.ckr_points.specs.declared.reply.Reply.{Reply}
 use Rattle.ckr_desk_refines.specs.Entries.{AreOwned, AreWithin}
-use Rattle.ckr_desk_refines.specs.EntryRefusal.{AreInEffect}
+use Rattle.ckr_desk_refines.specs.InEffect.{AreInEffect}
 use Rattle.ckr_desk_refines.specs.Moves.{KnowsItsEntry}
 use Rattle.ckr_desk_refines.proofs.Entries.SoundEvents.{sound-entries, sound-owners}
 use Rattle.ckr_desk_refines.proofs.Standing.Continuation.{wanted-stands}

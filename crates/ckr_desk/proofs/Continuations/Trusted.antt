@@ -28,6 +28,9 @@ use Rattle.ckr_steps.specs.EntryRecords.{bytes_on}
 use Rattle.ckr_steps.specs.Units.{program_of}
 use Rattle.ckr_volumes.specs.declared.layout.Layout.{Layout}
 use Rattle.ckr_volumes.specs.Layouts.{StandsIn}
+use Rattle.ckr_desk_refines.specs.DiskEntries.Continuation.{EntryThere, is_of_program, judged_read, judged_there}
+use Rattle.ckr_desk_refines.specs.DiskEntries.Entries.{state_in}
+use Rattle.ckr_desk_refines.specs.DiskEntries.KeptPoint.{is_as_kept, same_marks, same_passed, same_present}
 use Rattle.ckr_desk_refines.specs.Memory.EventChanges.{is_point_of}
 use Rattle.ckr_desk_refines.specs.Memory.View.{PointView}
 use Rattle.ckr_desk_turn.specs.Checkpoints.{entry_with}
@@ -39,8 +42,8 @@ use Rattle.ckr_points.specs.Office.{Office}
 use Rattle.ckr_desk.proofs.Continuations.Entries.{there_in}
 use Rattle.ckr_desk.proofs.Images.Entries.{ends-more}
 use Rattle.ckr_desk.proofs.Openings.Points.{ok-entry}
-use Rattle.ckr_desk.specs.Continuation.{EntryThere, entry_there, is_as_kept, is_of_program, judged_point, judged_read, judged_there, program_in, same_marks, same_passed, same_present, there_under}
-use Rattle.ckr_desk.specs.Entries.{point_in}
+use Rattle.ckr_desk.specs.Continuation.{entry_there, judged_point, point_by, program_in, there_under}
+use Rattle.ckr_desk.specs.Points.{point_in}
 use Rattle.ckr_desk.specs.declared.continuation.Continuation.{Continuation}
 
 -- ---- what is compared is the same as itself
@@ -126,18 +129,19 @@ module _ (layout : Layout) (now : Office) (laid : AreLaidOut layout now.tables.s
   right : is_of_program (program_in now.tables (suc before) step) read ≡ true
   right = ap (λ (o : Option Kind). is_of_program o read) program ∙ equal-itself (kind_number (program_of back.state))
 
-  judged-read : judged_read job entry (program_in now.tables (suc before) step) (entry_in (bytes_on image layout table.0.set entry.kept.place entry.kept.bytes)) ≡ Ok point
+  judged-read : judged_read entry (program_in now.tables (suc before) step) (entry_in (bytes_on image layout table.0.set entry.kept.place entry.kept.bytes)) ≡ Ok (state_in read)
   judged-read =
-      ap (judged_read job entry (program_in now.tables (suc before) step)) back.read
-      ∙ ap (λ (b : Bool). cond b (cond (is_of_program (program_in now.tables (suc before) step) read) (Ok point) (Err D7)) (Err D3)) (kept-itself entry back.state)
-      ∙ ap (λ (b : Bool). cond b (Ok point) (Err D7)) right
+      ap (judged_read entry (program_in now.tables (suc before) step)) back.read
+      ∙ ap (λ (b : Bool). cond b (cond (is_of_program (program_in now.tables (suc before) step) read) (Ok (state_in read)) (Err D7)) (Err D3)) (kept-itself entry back.state)
+      ∙ ap (λ (b : Bool). cond b (Ok (state_in read)) (Err D7)) right
 
   -- the point is found
   pub judged-so : judged_point layout now.tables image (at_checkpoint job before step id) ≡ Ok point
   judged-so =
-      ap (λ (o : Option EntryThere). option_map_or (judged_there layout image job (program_in now.tables (suc before) step)) o (Err D3)) there
-      ∙ ap (λ (b : Bool). cond b (judged_read job entry (program_in now.tables (suc before) step) (entry_in (bytes_on image layout table.0.set entry.kept.place entry.kept.bytes))) (Err D3)) placed
-      ∙ judged-read
+      ap (λ (o : Option EntryThere). option_map_or (λ (there : EntryThere). point_by job (judged_there layout image (program_in now.tables (suc before) step) there)) o (Err D3)) there
+      ∙ ap (point_by job)
+      (ap (λ (b : Bool). cond b (judged_read entry (program_in now.tables (suc before) step) (entry_in (bytes_on image layout table.0.set entry.kept.place entry.kept.bytes))) (Err D3)) placed
+      ∙ judged-read)
 
   -- it is the one that is wanted
   pub wanted-read : (points : List PointView) → find (is_point_of job) points ≡ Some point → IsWantedRead layout now.tables image points job id

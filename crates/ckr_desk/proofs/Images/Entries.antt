@@ -1,11 +1,12 @@
 -- The entries that the tables keep, in the images of a disk, and behind an event.
-use Rattle.std.proofs.Common.{◌≡◌, ◌≤◌, ◌+◌, ◌++◌, ℕ, suc, Bool, true, cond, IsTrue, List, [], ◌∷◌, find, slice_get, refl, ap, sym, ◌∙◌, subst, append-nil, Option, None, Some, option_and_then, Ok, arith}
+use Rattle.std.proofs.Common.{◌≡◌, ◌≤◌, ◌+◌, ◌++◌, ℕ, true, IsTrue, List, [], ◌∷◌, find, refl, ap, sym, ◌∙◌, subst, append-nil, Option, None, Some, Ok, arith}
 use Rattle.std.specs.Option.{option_map_or}
 use Rattle.ckr_base.proofs.Numbers.{nat_le-from, nat_le-true}
 use Rattle.ckr_base.proofs.Sequences.{find-holds}
 use Rattle.ckr_events.specs.declared.event.Event.{Event}
 use Rattle.ckr_events.specs.declared.event.Event.TheVariants.{Checkpointed}
 use Rattle.ckr_events.specs.Event.{spelling}
+use Rattle.ckr_desk_refines.proofs.DiskEntries.PlacedEntries.{placed-same}
 use Rattle.ckr_desk_refines.specs.Memory.Replay.{deck_of}
 use Rattle.ckr_desk_refines.proofs.Memory.Replays.{replayed-some}
 use Rattle.ckr_desk_refines.proofs.Entries.Checkpoint.{has-taken}
@@ -15,7 +16,7 @@ use Rattle.ckr_desk_refines.proofs.Entries.Images.{moved-kept}
 use Rattle.ckr_desk_refines.proofs.Entries.SoundEvents.{sound-entries, sound-refused}
 use Rattle.ckr_desk_refines.proofs.Entries.There.{has-then}
 use Rattle.ckr_desk_refines.specs.Entries.{AreWithin, HasEntries, HasNewEntry, OnlyCheckSetsKeep, SameKept}
-use Rattle.ckr_desk_refines.specs.EntryRefusal.{AreInEffect, IsInEffect, effect_fault, entry_refusal, first_fault, run_fault}
+use Rattle.ckr_desk_refines.specs.InEffect.{AreInEffect, IsInEffect}
 use Rattle.ckr_desk_refines.specs.Moves.{HasSameRecords}
 use Rattle.ckr_desk_store.specs.OpenImages.{event_records}
 use Rattle.ckr_desk_turn.proofs.Runs.Lists.{events-kept}
@@ -27,7 +28,7 @@ use Rattle.ckr_library.specs.NameMaps.{entry_at, same_name}
 use Rattle.ckr_library.specs.declared.sets.Kept.{Kept}
 use Rattle.ckr_library.proofs.Named.{each-at}
 use Rattle.ckr_points.specs.Events.{AreSound}
-use Rattle.ckr_points.specs.Office.{Office, is_holder, office, office_after}
+use Rattle.ckr_points.specs.Office.{Office, office, office_after}
 use Rattle.ckr_points.specs.Restart.{after_event}
 use Rattle.ckr_points.specs.Rows.{EffectPoint, KeptEntry, RunRow, TableSet, TablesModel, no_tables}
 use Rattle.ckr_points.specs.Soundness.{AreLaidOut, may_come}
@@ -38,7 +39,7 @@ use Rattle.ckr_volumes.specs.declared.layout.Layout.{Layout}
 use Rattle.ckr_desk.proofs.Images.NextEvent.{events-more, opens-grown, sound-grown}
 use Rattle.ckr_desk.proofs.Openings.DeckRecords.{deck-records}
 use Rattle.ckr_desk.proofs.Trust.Events.{IsComing}
-use Rattle.ckr_desk.specs.Entries.{ArePlaced, bad_entry, effect_refusal, has_places, is_placed, run_refusal}
+use Rattle.ckr_desk.specs.Entries.{bad_entry, has_places, is_placed}
 use Rattle.ckr_desk.specs.Opening.{behind_records}
 use Rattle.ckr_desk.specs.Soundness.{IsTrusted, events_in, office_on}
 use Rattle.ckr_desk.specs.State.{DeskView}
@@ -59,27 +60,6 @@ effect-placed layout office laid within row effect its = by (entry_at office.tab
         find-holds (λ (entry : KeptEntry). IsTrue (ends_within table.set.length entry.kept)) (λ (entry : KeptEntry). same_name entry.kept.id effect.kept.id) table.entries its.entry (within effect.set table e) at in
         let stands : StandsIn layout table.set = each-at (λ (table : TableSet). StandsIn layout table.set) office.tables.sets laid.stand effect.set table e in
         subst (λ (kept : Kept). ends_within table.set.space kept ≡ true) its.kept (ends-more table.set.length table.set.space its.entry.kept stands.length_fits ends)
-
-run-same : (layout : Layout) (tables : TablesModel) (image : List ℕ) (row : RunRow) → ((effect : EffectPoint) → row.in_effect ≡ Some effect → is_placed tables effect ≡ true)
-    → run_refusal layout tables image row ≡ run_fault layout tables image row
-run-same layout tables image row placed = ap (λ (o : Option ℕ). cond (is_holder row.state) o None) (by row.in_effect placed)
-  where
-    by : (found : Option EffectPoint) → ((effect : EffectPoint) → found ≡ Some effect → is_placed tables effect ≡ true)
-        → option_and_then (effect_refusal layout tables image row) found ≡ option_and_then (effect_fault layout tables image row) found
-    by None placed = refl
-    by (Some effect) placed = ap (λ (b : Bool). cond b (effect_fault layout tables image row effect) (Some 0)) (placed effect refl)
-
-first-same : (one other : RunRow → Option ℕ) (rows : List RunRow) → ((place : ℕ) (row : RunRow) → slice_get rows place ≡ Some row → one row ≡ other row) → first_fault one rows ≡ first_fault other rows
-first-same one other [] same = refl
-first-same one other (row ∷ rows) same =
-    ap (λ (o : Option ℕ). option_map_or (λ offset. Some (row.number, offset)) o (first_fault one rows)) (same 0 row refl)
-    ∙ ap (λ (o : Option (ℕ × ℕ)). option_map_or (λ offset. Some (row.number, offset)) (other row) o) (first-same one other rows (λ place it at. same (suc place) it at))
-
--- by its bytes alone, where each has its places
-pub placed-same : (layout : Layout) (tables : TablesModel) (image : List ℕ) → ArePlaced tables → bad_entry layout tables image ≡ entry_refusal layout tables image
-unfolding bad_entry
-placed-same layout tables image placed =
-    first-same (run_refusal layout tables image) (run_fault layout tables image) tables.runs (λ place row at. run-same layout tables image row (λ effect is. placed (suc place) row effect at is))
 
 -- ---- records that bring about tables
 

@@ -5,7 +5,8 @@ use Rattle.ckr_points.specs.Rows.{TablesModel}
 use Rattle.ckr_volumes.specs.declared.layout.Layout.{Layout}
 use Rattle.ckr_desk.specs.declared.error.OpenError.{OpenError}
 use Rattle.ckr_desk.specs.declared.error.OpenError.TheVariants as OpenErrors
-use Rattle.ckr_desk.specs.Entries.{EntriesCause, bad_entry}
+use Rattle.ckr_desk.specs.Entries.{bad_entry}
+use Rattle.ckr_desk.specs.Points.{EntriesCause}
 use Rattle.ckr_desk.specs.Opening.{by_book, by_entries, opened_at, refused_or}
 use Rattle.ckr_desk.specs.Replay.{IsReadTo, IsReplayedTo, OpenCause, ReplayCause}
 

@@ -1,5 +1,5 @@
 -- The points of checkpoints in effect that opening reads: what was found of a run, and whose the points of a list are.
-use Rattle.std.proofs.Common.{◌≡◌, ◌≤◌, ◌<◌, ◌+◌, ◌++◌, ◌^◌, ◌&&◌, ◌==◌, ℕ, zero, suc, Bool, true, false, cond, List, [], ◌∷◌, find, length, if◌then◌else◌, refl, ap, sym, ◌∙◌, subst, Option, None, Some, Result, Ok, Err, arith}
+use Rattle.std.proofs.Common.{◌≡◌, ◌≤◌, ◌<◌, ◌+◌, ◌++◌, ◌^◌, ◌&&◌, ◌==◌, ℕ, zero, suc, Bool, true, false, cond, List, [], ◌∷◌, find, length, if◌then◌else◌, refl, ap, sym, ◌∙◌, subst, Option, None, Some, Result, Ok, arith}
 use Rattle.std.proofs.lemmas.Bool.{false≢true}
 use Rattle.std.specs.Prelude.{nat_le, nat_lt}
 use Rattle.std.specs.List.{AllByRecursion}
@@ -26,39 +26,35 @@ use Rattle.ckr_desk_refines.specs.Memory.OwnSteps.{HavePoints}
 use Rattle.ckr_desk_refines.specs.Memory.Parts.{IsPointCounted}
 use Rattle.ckr_desk_refines.specs.Memory.View.{PointView}
 use Rattle.ckr_desk_refines.specs.Entries.{AreRead}
-use Rattle.ckr_desk_refines.specs.EntryRefusal.{are_present, fault_in, is_of_run, is_of_step}
+use Rattle.ckr_desk_refines.specs.DiskEntries.EntryRefusal.{are_present, is_of_run, is_of_step}
 use Rattle.ckr_desk_turn.proofs.Checkpoints.Ranges.{entry-range}
 use Rattle.ckr_desk_turn.specs.Checkpoints.{are_counts_in_range, is_state_in_range}
 use Rattle.ckr_steps.specs.Units.{entries_of, program_of, rejects_of, sum_of}
 use Rattle.ckr_volumes.specs.declared.layout.Layout.{Layout}
-use Rattle.ckr_desk.specs.Entries.{ArePointsRead, HasPointRead, IsFoundOf, IsPointRead, point_in, point_read, refused_at}
+use Rattle.ckr_desk_refines.specs.DiskEntries.StepState.{StepState}
+use Rattle.ckr_desk.specs.Entries.{IsFoundOf}
+use Rattle.ckr_desk.specs.Points.{ArePointsRead, HasPointRead, IsPointRead, point_at, point_in}
 
--- ---- an entry
+-- ---- what was found of a run
 
--- where it is refused
-pub refused-read : (run : ℕ) (is_right : Entry → Bool) (read : Result Entry ℕ) → refused_at (point_read run is_right read) ≡ fault_in is_right read
-refused-read run is_right (Ok entry) = by (is_right entry)
-  where
-    by : (b : Bool) → refused_at (cond b (Ok (point_in run entry)) (Err 0)) ≡ cond b None (Some 0)
-    by true = refl
-    by false = refl
-refused-read run is_right (Err offset) = refl
+-- a point is that of the run's checkpoint in effect
+abbrev pub IsPointOf : Type 0 → Layout → TablesModel → List ℕ → RunRow → PointView → Type 0
+IsPointOf told layout tables image row point = (effect : EffectPoint) × (row.in_effect ≡ Some effect) × IsPointRead told layout tables image row effect point
 
--- one that is a point is one of the step
-pub record IsRightEntry (run : ℕ) (is_right : Entry → Bool) (read : Result Entry ℕ) (point : PointView) : Type 0 where
-  pub entry : Entry
-  pub is : read ≡ Ok entry
-  pub right : is_right entry ≡ true
-  pub point_is : point ≡ point_in run entry
-
-pub right-read : (run : ℕ) (is_right : Entry → Bool) (read : Result Entry ℕ) (point : PointView) → Ok point ≡ point_read run is_right read → IsRightEntry run is_right read point
-right-read run is_right (Err offset) point is = absurd (let no : ⊥ = cc in no)
-right-read run is_right (Ok entry) point is =
-    by (is_right entry) refl is
-  where
-    by : (b : Bool) → is_right entry ≡ b → ◌≡◌ {A = Result PointView ℕ} (Ok point) (cond b (Ok (point_in run entry)) (Err 0)) → IsRightEntry run is_right (Ok entry) point
-    by true right same = record { entry = entry; is = refl; right = right; point_is = (let e : point ≡ point_in run entry = cc in e) }
-    by false right same = absurd (let no : ⊥ = cc in no)
+-- where its step was found to stand, its point is
+pub point-found : (told : Type 0) (layout : Layout) (tables : TablesModel) (image : List ℕ) (row : RunRow) (run : ℕ) (state : StepState) → run ≡ row.number
+    → IsFoundOf told layout tables image row (Some (Ok state)) → IsPointOf told layout tables image row (point_at run state)
+point-found told layout tables image row run state same found = (
+  found.0,
+  found.1,
+  record {
+    entry = found.2.entry;
+    form = found.2.form;
+    its = found.2.its;
+    is = ap (point_at run) found.2.is ∙ ap (λ (n : ℕ). point_in n found.2.entry) same;
+    read = found.2.read;
+  },
+)
 
 -- ---- its numbers
 
@@ -193,7 +189,7 @@ module _ (told : Type 0) (layout : Layout) (tables : TablesModel) (image : List 
 
   -- or this one more
   pub points-more : (place : ℕ) (points : List PointView) (point : PointView) → ArePointsTo place points → AllByRecursion (IsUpTo place) points
-      → ((row : RunRow) → run_of tables (suc place) ≡ Some row → (row.number ≡ suc place) × IsFoundOf told layout tables image row (Some (Ok point))) → ArePointsTo (place + 1) (points ++ point ∷ [])
+      → ((row : RunRow) → run_of tables (suc place) ≡ Some row → (row.number ≡ suc place) × IsPointOf told layout tables image row point) → ArePointsTo (place + 1) (points ++ point ∷ [])
   unfolding ArePointsTo
   points-more place points point before upto found number row effect few at holds got =
       bool-cases (nat_le number place)
@@ -217,7 +213,7 @@ module _ (told : Type 0) (layout : Layout) (tables : TablesModel) (image : List 
   points-all place points most all (suc number) row effect at holds got = all (suc number) row effect (let inside : number < length tables.runs = get-inside row tables.runs number at in omega (arith, inside, most)) at holds got
 
   -- the new one is of the next number
-  pub next-point : (place : ℕ) (row : RunRow) (point : PointView) → row.number ≡ suc place → IsFoundOf told layout tables image row (Some (Ok point)) → IsUpTo (place + 1) point × IsPointCounted point
+  pub next-point : (place : ℕ) (row : RunRow) (point : PointView) → row.number ≡ suc place → IsPointOf told layout tables image row point → IsUpTo (place + 1) point × IsPointCounted point
   next-point place row point number found = (
     (let same : point.run ≡ row.number = ap (λ (p : PointView). p.run) found.2.is in omega (arith, same, number)),
     subst IsPointCounted (sym found.2.is) (counted-in row.number found.2.entry found.2.form),

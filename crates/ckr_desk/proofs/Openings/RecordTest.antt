@@ -11,7 +11,7 @@ use Rattle.ckr_library.specs.declared.sets.DataSet.{DataSet}
 use Rattle.ckr_library.specs.NameMaps.{Name, entry_at}
 use Rattle.ckr_library.proofs.Named.{at-viewed}
 use Rattle.ckr_points.specs.Rows.{RunRow, TableSet, TablesModel, holding_of, run_of}
-use Rattle.ckr_points_tables.specs.View.{seen_by}
+use Rattle.ckr_desk_refines.specs.Tables.View.{seen_by}
 use Rattle.ckr_desk.specs.Replay.{fits_in, fits_name, fits_row, fits_set, has_record}
 
 viewed-fits : (place : ℕ) (image : List ℕ) (entry : Option TableSet)

@@ -16,7 +16,7 @@ use Rattle.ckr_desk_refines.proofs.Entries.There.{has-then}
 use Rattle.ckr_desk_refines.specs.Commits.{HasCommitted}
 use Rattle.ckr_desk_refines.proofs.Standing.Openings.{opened-stands}
 use Rattle.ckr_desk_refines.specs.Entries.{AreRead, HasEntries, OnlyCheckSetsKeep, SameKept}
-use Rattle.ckr_desk_refines.specs.EntryRefusal.{AreInEffect}
+use Rattle.ckr_desk_refines.specs.InEffect.{AreInEffect}
 use Rattle.ckr_outside.specs.Disk.{EachSince, Only, part}
 use Rattle.ckr_outside.specs.Moments.{and_then}
 use Rattle.ckr_points.specs.Events.{AreSound}
@@ -48,7 +48,8 @@ use Rattle.ckr_desk.specs.FirstSync.{FromSync}
 use Rattle.ckr_desk.specs.declared.error.OpenError.{OpenError}
 use Rattle.ckr_desk.specs.declared.error.OpenError.TheVariants.{BadBook}
 use Rattle.ckr_desk.specs.declared.error.OpenError.TheVariants as OpenErrors
-use Rattle.ckr_desk.specs.Entries.{ArePointsRead, bad_entry}
+use Rattle.ckr_desk.specs.Entries.{bad_entry}
+use Rattle.ckr_desk.specs.Points.{ArePointsRead}
 use Rattle.ckr_desk.specs.Opening.{behind_records, by_book, by_end, by_entries, by_header, opened_at, opening_of, refused_or}
 use Rattle.ckr_desk.specs.Replay.{IsLackingAgain, IsWrittenAgain, IsWrittenIf, LacksLast, OpenCause, has_record}
 use Rattle.ckr_desk.specs.Soundness.{HasKept, IsTrusted, Sound, desk_of_opened, desk_opening, events_in, last_on, office_on, state_of}

@@ -14,8 +14,8 @@ use Rattle.ckr_desk_refines.specs.Memory.Plans.{IsUnitPlan, is_unit_event}
 use Rattle.ckr_desk_refines.specs.Memory.Preparation.{HasAgain, IsPrepared}
 use Rattle.ckr_desk_refines.specs.Memory.View.{PointView, RunningStepView}
 use Rattle.ckr_points.specs.Rows.{TablesModel}
-use Rattle.ckr_points_tables.specs.Invariant.{HasRoom}
-use Rattle.ckr_points_tables.specs.View.{RoomyTables}
+use Rattle.ckr_desk_refines.specs.Tables.Invariant.{HasRoom}
+use Rattle.ckr_desk_refines.specs.Tables.View.{RoomyTables}
 use Rattle.ckr_desk_refines.specs.Moves.{event_in}
 use Rattle.ckr_desk_turn.specs.Inquiries.{is_ask}
 use Rattle.ckr_desk_turn.specs.declared.plan.Plan.{Plan}

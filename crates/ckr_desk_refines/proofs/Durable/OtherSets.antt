@@ -9,7 +9,7 @@ use Rattle.ckr_uses.specs.Uses.{is_shared, leaves}
 use Rattle.ckr_events.specs.declared.event.Made.{Made}
 use Rattle.ckr_jcl.specs.declared.deck.Dd.{Dd}
 use Rattle.ckr_library.specs.NameMaps.{Name, same_name, entry_at}
-use Rattle.ckr_meaning.specs.Allotments.{found, DdAllotment, opened_all}
+use Rattle.ckr_meaning.specs.Allotments.{DdAllotment, opened_all}
 use Rattle.ckr_meaning.specs.Dispositions.{disposed_all}
 use Rattle.ckr_meaning.specs.EffectiveJob.{Effective, OwnedStep, disposals_of, is_among, name_of, names_of, placed_in, stamp_of, step_at}
 use Rattle.ckr_meaning.specs.declared.place.Place.{Place}

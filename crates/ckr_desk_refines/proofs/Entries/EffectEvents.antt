@@ -43,7 +43,8 @@ use Rattle.ckr_points_invariant.proofs.OtherRuns.Sets.{length-among}
 use Rattle.ckr_volumes.specs.declared.layout.Layout.{Layout}
 use Rattle.ckr_desk_turn.proofs.Checkpoints.Kept.{kept-then}
 use Rattle.ckr_desk_refines.specs.Entries.{AreWithin, entry_taken}
-use Rattle.ckr_desk_refines.specs.EntryRefusal.{AreInEffect, HasSameCase, HasStepNames, IsInEffect, are_present}
+use Rattle.ckr_desk_entries.specs.EntryRefusal.{are_present}
+use Rattle.ckr_desk_refines.specs.InEffect.{AreInEffect, HasSameCase, HasStepNames, IsInEffect}
 use Rattle.ckr_desk_refines.proofs.Entries.Effects as effects
 use Rattle.ckr_desk_refines.proofs.Entries.Effects.{passes-of}
 use Rattle.ckr_desk_refines.proofs.Entries.KeptEntries.{kept_at-same, there-committed}

@@ -24,7 +24,7 @@ use Rattle.ckr_volumes.specs.declared.layout.Layout.{Layout}
 use Rattle.ckr_desk_turn.specs.Jobs.{effect_entry}
 use Rattle.ckr_desk_turn.specs.EntryStates.{checkpoint_state}
 use Rattle.ckr_desk_refines.specs.Entries.{HasEntries, IsReadBack, IsReadInEffect, jobs_of}
-use Rattle.ckr_desk_refines.specs.EntryRefusal.{AreInEffect, HasSameCase, IsInEffect}
+use Rattle.ckr_desk_refines.specs.InEffect.{AreInEffect, HasSameCase, IsInEffect}
 use Rattle.ckr_desk_refines.proofs.Entries.Images.{read-back}
 use Rattle.ckr_desk_refines.proofs.Entries.Refusal.{kept-table, state-of}
 use Rattle.ckr_desk_refines.proofs.Entries.States.{state-served, state-stands, state-unclosed}

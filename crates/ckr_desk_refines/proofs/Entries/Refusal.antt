@@ -27,7 +27,8 @@ use Rattle.ckr_volumes.specs.declared.layout.Layout.{Layout}
 use Rattle.ckr_desk_turn.specs.Checkpoints.{entry_with}
 use Rattle.ckr_desk_turn.specs.EntryStates.{checkpoint_state}
 use Rattle.ckr_desk_refines.specs.Entries.{HasEntries, IsReadBack, IsStateOfJob, jobs_of}
-use Rattle.ckr_desk_refines.specs.EntryRefusal.{AreInEffect, IsInEffect, are_present, effect_fault, entry_refusal, fault_in, first_fault, is_of_run, is_of_step, run_fault}
+use Rattle.ckr_desk_entries.specs.EntryRefusal.{are_present, effect_fault, entry_refusal, fault_in, first_fault, is_of_run, is_of_step, run_fault}
+use Rattle.ckr_desk_refines.specs.InEffect.{AreInEffect, IsInEffect}
 use Rattle.ckr_desk_refines.proofs.Entries.Images.{read-back}
 use Rattle.ckr_desk_refines.proofs.Entries.States.{state-program}
 

@@ -20,7 +20,7 @@ use Rattle.ckr_points_invariant.specs.Readiness.{AreReady, IsCheck}
 use Rattle.ckr_points_invariant.proofs.Readiness.Runs.{kept-entry}
 use Rattle.ckr_points_invariant.proofs.Steps.Events.{led-by}
 use Rattle.ckr_volumes.specs.declared.layout.Layout.{Layout}
-use Rattle.ckr_desk_refines.specs.EntryRefusal.{AreInEffect, IsInEffect}
+use Rattle.ckr_desk_refines.specs.InEffect.{AreInEffect, IsInEffect}
 use Rattle.ckr_desk_refines.proofs.Entries.Effects as effects
 use Rattle.ckr_desk_refines.proofs.Entries.KeptEntries.{kept_at-put_back}
 

@@ -46,7 +46,7 @@ use Rattle.ckr_desk_turn.proofs.Units.Outputs.{within_at-parts}
 use Rattle.ckr_desk_refines.specs.SharedSets.{LeavesOthers}
 use Rattle.ckr_desk_refines.proofs.Durable.OtherSets.{IsLeft, committed-left, left-of, running-leaves}
 use Rattle.ckr_desk_refines.specs.Entries.{HasCheckDd, HasCheckSet, entry_taken, takes_checkpoint}
-use Rattle.ckr_desk_refines.specs.EntryRefusal.{HasStepNames}
+use Rattle.ckr_desk_refines.specs.InEffect.{HasStepNames}
 use Rattle.ckr_desk_refines.proofs.Entries.EffectEvents.{of-found, tested-some}
 
 some-alike : (entry : Option TableSet) (other : Option LibrarySet) → option_map table_shape entry ≡ option_map set_shape other → is_some other ≡ true → is_some entry ≡ true

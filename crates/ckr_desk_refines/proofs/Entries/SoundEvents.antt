@@ -33,7 +33,8 @@ use Rattle.ckr_points_invariant.proofs.Steps.Events.{led-by, running-holds, runn
 use Rattle.ckr_points_invariant.proofs.WaitingRuns.{follows-of, tested-run}
 use Rattle.ckr_volumes.specs.declared.layout.Layout.{Layout}
 use Rattle.ckr_desk_refines.specs.Entries.{AreOwned, AreWithin, HasEntries}
-use Rattle.ckr_desk_refines.specs.EntryRefusal.{AreInEffect, LeavesReach, entry_refusal}
+use Rattle.ckr_desk_entries.specs.EntryRefusal.{entry_refusal}
+use Rattle.ckr_desk_refines.specs.InEffect.{AreInEffect, LeavesReach}
 use Rattle.ckr_desk_refines.proofs.Durable.Continuation.{others-continued}
 use Rattle.ckr_desk_refines.proofs.Durable.Events.{by-run-sets}
 use Rattle.ckr_desk_refines.proofs.Durable.Fellows.{others-coded, others-completed, others-refused, others-rewritten, others-selected, others-started, others-step-ended, others-submitted}

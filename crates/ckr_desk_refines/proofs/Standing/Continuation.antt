@@ -22,7 +22,7 @@ use Rattle.ckr_volumes.specs.declared.layout.Layout.{Layout}
 use Rattle.ckr_volumes.specs.SamePlaces.{SamePlaces}
 use Rattle.ckr_desk_memory.specs.View.{PointView}
 use Rattle.ckr_desk_refines.specs.Entries.{AreOwned, AreWithin, HasEntries, IsRead, IsWantedRead}
-use Rattle.ckr_desk_refines.specs.EntryRefusal.{AreInEffect}
+use Rattle.ckr_desk_refines.specs.InEffect.{AreInEffect}
 use Rattle.ckr_desk_refines.specs.Standing.{OwnStands}
 use Rattle.ckr_desk_refines.proofs.Durable.Continuation.{continued-from, may-so}
 use Rattle.ckr_desk_refines.proofs.Durable.StepEnd.{StaysFrom}

@@ -20,7 +20,7 @@ use Rattle.ckr_desk_turn.specs.Desk.{opened}
 use Rattle.ckr_desk_turn.specs.Invariant.{IsDesk}
 use Rattle.ckr_desk_refines.specs.Commits.{HasCommitted}
 use Rattle.ckr_desk_refines.specs.Entries.{AreRead, HasEntries, IsPointOfEntry, IsRead, IsReadInEffect}
-use Rattle.ckr_desk_refines.specs.EntryRefusal.{AreInEffect, IsInEffect}
+use Rattle.ckr_desk_refines.specs.InEffect.{AreInEffect, IsInEffect}
 use Rattle.ckr_desk_refines.specs.Standing.{AllStand, OwnStands, StandsForDesk}
 use Rattle.ckr_desk_refines.proofs.Entries.InEffect.{effect-read}
 use Rattle.ckr_desk_refines.proofs.Standing.Points.{entry_in_effect}

@@ -2,7 +2,7 @@ use Rattle.std.proofs.Common.{◌∙◌, [], ap, sym}
 use Rattle.std.specs.Option.{option_map}
 use Rattle.ckr_volumes.specs.Layouts.{StandsIn}
 use Rattle.ckr_desk.proofs.Continuations.Entries.{there-stands}
-use Rattle.ckr_desk.specs.Continuation.{there_of}
+use Rattle.ckr_desk_refines.specs.DiskEntries.Continuation.{there_of}
 use Rattle.ckr_desk.proofs.continuation.judged_point.Goals as goal
 
 pub judged_there-requires-clause-stands : goal.judged_there-requires-clause-stands

@@ -1,7 +1,7 @@
 use Rattle.std.proofs.Common.{◌∙◌, ap, sym, Some}
 use Rattle.std.specs.Option.{option_copied, option_map}
 use Rattle.ckr_points.specs.Restart.{syschk_name}
-use Rattle.ckr_points_tables.specs.Entries.{entry_in}
+use Rattle.ckr_desk_refines.specs.Tables.Entries.{entry_in}
 use Rattle.ckr_desk.proofs.Continuations.Entries.{there-none, there-some}
 use Rattle.ckr_desk.proofs.continuation.there_in_syschk.Goals as goal
 

@@ -1,6 +1,6 @@
 use Rattle.std.proofs.Common.{◌≡◌, ◌≤◌}
 use Rattle.ckr_outside.specs.Disk.{OnlyReads}
-use Rattle.ckr_desk.proofs.Openings.EntryReads.{bad_from}
+use Rattle.ckr_desk.proofs.Openings.Refusals.{bad_from}
 use Rattle.ckr_desk.proofs.Openings.NextPoints.{AreSoFar}
 use Rattle.ckr_desk.specs.Entries.{bad_entry}
 use Rattle.ckr_desk.proofs.entries.check_entries.Given as goal

@@ -3,10 +3,11 @@ use Rattle.ckr_base.proofs.Results.{err-holds}
 use Rattle.ckr_outside.specs.Faults.{Rose}
 use Rattle.ckr_desk_refines.specs.RewriteRecord.{last_event}
 use Rattle.ckr_desk_store.specs.OpenImages.{event_records}
-use Rattle.ckr_desk.specs.Entries.{ArePointsRead}
+use Rattle.ckr_desk.specs.Points.{ArePointsRead}
 use Rattle.ckr_desk.specs.Soundness.{events_in, last_on}
 use Rattle.ckr_desk.proofs.Openings.Answers.{found_behind, book_cause_behind, rose_before}
-use Rattle.ckr_desk.proofs.Openings.Syncs.{reads-behind, reads-on}
+use Rattle.ckr_desk.proofs.Openings.Syncs.{reads-behind}
+use Rattle.ckr_desk_refines.proofs.DiskEntries.DiskReads.{reads-on}
 use Rattle.ckr_desk.proofs.opening.read_disk.Goals as goal
 
 pub returns-clause-found : goal.returns-clause-found

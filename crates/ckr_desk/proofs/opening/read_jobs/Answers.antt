@@ -2,13 +2,14 @@ use Rattle.std.proofs.Common.{◌≡◌, ◌∙◌, None, List, ℕ, ap, refl, s
 use Rattle.ckr_base.proofs.Results.{err-holds}
 use Rattle.ckr_desk_refines.specs.Memory.OwnSteps.{HavePoints}
 use Rattle.ckr_outside.specs.Faults.{Rose}
-use Rattle.ckr_points_tables.specs.View.{RoomyTables}
+use Rattle.ckr_desk_refines.specs.Tables.View.{RoomyTables}
 use Rattle.ckr_desk.proofs.Layouts.{jobs-stay, kept-opened}
 use Rattle.ckr_desk.proofs.Openings.Accepted.{entries-cause, read-so, replay-cause}
 use Rattle.ckr_desk.proofs.Openings.Answers.{rose_before}
 use Rattle.ckr_desk.proofs.Openings.Points.{points-known}
-use Rattle.ckr_desk.proofs.Openings.Syncs.{reads-on}
-use Rattle.ckr_desk.specs.Entries.{ArePointsRead, EntriesCause, bad_entry}
+use Rattle.ckr_desk_refines.proofs.DiskEntries.DiskReads.{reads-on}
+use Rattle.ckr_desk.specs.Entries.{bad_entry}
+use Rattle.ckr_desk.specs.Points.{ArePointsRead, EntriesCause}
 use Rattle.ckr_desk.specs.Replay.{IsReadTo}
 use Rattle.ckr_desk.proofs.opening.read_jobs.Goals as goal
 

@@ -4,7 +4,7 @@ use Rattle.ckr_desk_refines.specs.Memory.Checkpoint.{Checkpoint}
 use Rattle.ckr_desk_refines.specs.Memory.Checkpoints.{IsCheckpointOf}
 use Rattle.ckr_desk_refines.specs.Memory.Parts.{step_seen}
 use Rattle.ckr_events.specs.declared.event.Event.{Event}
-use Rattle.ckr_points_tables.specs.Invariant.{MaySubmit}
+use Rattle.ckr_desk_refines.specs.Tables.Invariant.{MaySubmit}
 use Rattle.ckr_points.specs.declared.reply.Chkpt.TheVariants.{Done}
 use Rattle.ckr_desk_turn.specs.Spelling.{IsSpelled}
 use Rattle.ckr_desk.proofs.Checkpoints.Attempts.{made-same, made-with, not-ready, reply-same, reply-with, unfit-with}

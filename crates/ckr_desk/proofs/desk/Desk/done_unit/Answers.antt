@@ -15,7 +15,7 @@ use Rattle.ckr_steps.specs.StepUnit.{HasWorkedOut}
 use Rattle.ckr_steps.specs.Writes.{StemsKeeping}
 use Rattle.ckr_volumes.specs.declared.layout.Layout.{Layout}
 use Rattle.ckr_points.specs.Rows.{TablesModel}
-use Rattle.ckr_points_tables.specs.View.{RoomyTables}
+use Rattle.ckr_desk_refines.specs.Tables.View.{RoomyTables}
 use Rattle.ckr_desk.specs.State.{AreKept, DeskView}
 use Rattle.ckr_desk.specs.Rewrite.{OpensSame}
 use Rattle.ckr_desk.specs.Units.{IsLeftByUnit, IsToldOf}

@@ -1,7 +1,7 @@
 use Rattle.std.proofs.Common.{◌≡◌, ◌∙◌, None, ap, subst, sym, true}
 use Rattle.ckr_desk_refines.specs.Memory.OwnSets.{CommitsItsOwn}
 use Rattle.ckr_desk_refines.specs.Memory.OwnSteps.{LeavesLeft}
-use Rattle.ckr_points_tables.specs.View.{RoomyTables}
+use Rattle.ckr_desk_refines.specs.Tables.View.{RoomyTables}
 use Rattle.ckr_desk.specs.Calls.{may_follow}
 use Rattle.ckr_desk.specs.State.{DeskView}
 use Rattle.ckr_desk.specs.Submit.{is_held_run}

@@ -4,7 +4,7 @@ use Rattle.ckr_desk_refines.specs.Memory.Invariant.{IsAnyAccepted}
 use Rattle.ckr_desk_refines.specs.Memory.OwnSets.{CommitsItsOwn}
 use Rattle.ckr_desk_refines.specs.Memory.OwnSteps.{LeavesLeft}
 use Rattle.ckr_events.specs.declared.event.Event.TheVariants.{Submitted}
-use Rattle.ckr_points_tables.specs.Invariant.{MaySubmit}
+use Rattle.ckr_desk_refines.specs.Tables.Invariant.{MaySubmit}
 use Rattle.ckr_desk_store.specs.State.{IsSound}
 use Rattle.ckr_desk_turn.specs.Cards.{kept_of_stored}
 use Rattle.ckr_desk.proofs.Calls.CardCounts.{accepted-deck, accepted-row, few-accepted}

@@ -3,7 +3,7 @@ use Rattle.std.proofs.lemmas.List.{length-map}
 use Rattle.ckr_base.proofs.Numbers.{nat_le-beyond, nat_le-from}
 use Rattle.ckr_points.specs.Rows.{TablesModel}
 use Rattle.ckr_points.specs.declared.run.Run.{Run}
-use Rattle.ckr_points_tables.specs.View.{line_of}
+use Rattle.ckr_desk_refines.specs.Tables.View.{line_of}
 use Rattle.ckr_desk.specs.Submit.{job_number, next_number}
 use Rattle.ckr_desk.proofs.desk.Desk.job_number.Goals as goal
 

@@ -13,7 +13,7 @@ use Rattle.ckr_library.specs.NameMaps.{EachEntry}
 use Rattle.ckr_points.specs.Follows.{is_in_state, of_run}
 use Rattle.ckr_points.specs.Rows.{TableSet}
 use Rattle.ckr_points.specs.declared.run.RunState.TheVariants.{Queued}
-use Rattle.ckr_points_tables.specs.View.{RoomyTables}
+use Rattle.ckr_desk_refines.specs.Tables.View.{RoomyTables}
 use Rattle.ckr_volumes.specs.Layouts.{StandsIn}
 use Rattle.ckr_volumes.specs.declared.layout.Layout.{Layout}
 use Rattle.ckr_desk.proofs.Continuations.Entries.{point-counted}

@@ -1,5 +1,5 @@
 use Rattle.std.proofs.Common.{ap}
-use Rattle.ckr_points_tables.specs.View.{RoomyTables}
+use Rattle.ckr_desk_refines.specs.Tables.View.{RoomyTables}
 use Rattle.ckr_desk.proofs.Layouts.{kept-moved}
 use Rattle.ckr_desk.proofs.desk.Desk.pass.Goals as goal
 use Rattle.ckr_desk_refines.proofs.Memory.Served.{counted-all}

@@ -1,6 +1,7 @@
 use Rattle.std.proofs.Common.{ap, sym, subst, ◌∙◌}
 use Rattle.ckr_desk_refines.specs.Memory.Rewrite.{HasRecordPlace}
-use Rattle.ckr_desk.proofs.Images.Rewrite.{differs-so, image-there, lacking-then, lacks-most, place-there, set-some, set-stands, updated-some, writing-left, written-by}
+use Rattle.ckr_desk.proofs.Images.Rewrite.{differs-so, image-there, lacking-then, lacks-most, place-there, set-some, updated-some, writing-left, written-by}
+use Rattle.ckr_desk_refines.proofs.DiskEntries.LibrarySets.{set-stands}
 use Rattle.ckr_desk.specs.State.{DeskView}
 use Rattle.ckr_desk.proofs.desk.Desk.rewrite.Goals as goal
 

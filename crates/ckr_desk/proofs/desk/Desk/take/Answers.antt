@@ -9,7 +9,7 @@ use Rattle.ckr_desk_refines.specs.Memory.Preparation.{IsPrepared}
 use Rattle.ckr_desk_refines.specs.Memory.View.{JobsView}
 use Rattle.ckr_events.specs.declared.event.Event.{Event}
 use Rattle.ckr_points.specs.Follows.{follows}
-use Rattle.ckr_points_tables.specs.Invariant.{MaySubmit}
+use Rattle.ckr_desk_refines.specs.Tables.Invariant.{MaySubmit}
 use Rattle.ckr_volumes.specs.declared.layout.Layout.{Layout}
 use Rattle.ckr_desk.specs.declared.preparation.Ready.{Ready}
 use Rattle.ckr_desk.specs.Preparation.{IsReady}

@@ -5,7 +5,7 @@ use Rattle.ckr_points.specs.Rows.{TablesModel}
 use Rattle.ckr_events.specs.Event.{spelling}
 use Rattle.ckr_outside.specs.Disk.{EachSince}
 use Rattle.ckr_desk_refines.specs.Memory.Invariant.{IsAnyAccepted}
-use Rattle.ckr_points_tables.specs.Invariant.{MaySubmit}
+use Rattle.ckr_desk_refines.specs.Tables.Invariant.{MaySubmit}
 use Rattle.ckr_desk_refines.specs.Memory.OwnSets.{CommitsItsOwn}
 use Rattle.ckr_desk_refines.specs.Memory.OwnSteps.{LeavesLeft}
 use Rattle.ckr_desk_refines.specs.Moves.{HasSameRecords}

@@ -4,7 +4,7 @@ use Rattle.ckr_desk_refines.specs.Memory.OwnSteps.{PlanFollows}
 use Rattle.ckr_desk_refines.proofs.Memory.OwnUnits.{told-leaves}
 use Rattle.ckr_outside.specs.Moments.{at_the_end}
 use Rattle.ckr_desk_store.specs.State.{StoreView}
-use Rattle.ckr_points_tables.specs.View.{RoomyTables}
+use Rattle.ckr_desk_refines.specs.Tables.View.{RoomyTables}
 use Rattle.ckr_volumes.specs.declared.layout.Layout.{Layout}
 use Rattle.ckr_points.specs.declared.reply.Reply.{Reply}
 use Rattle.ckr_desk.specs.declared.error.DeskError.{DeskError}

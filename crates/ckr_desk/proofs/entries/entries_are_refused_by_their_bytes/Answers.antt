@@ -1,5 +1,0 @@
-use Rattle.ckr_desk.proofs.Images.Entries.{placed-same}
-use Rattle.ckr_desk.proofs.entries.entries_are_refused_by_their_bytes.Goals as goal
-
-pub returns : goal.returns
-returns c = placed-same

@@ -1,5 +1,0 @@
-use Rattle.std.proofs.Common.{length}
-use Rattle.ckr_desk.proofs.kept_point.+same_marks.Given as goal
-
-abbrev pub decreases-same_marks : goal.decreases-same_marks
-decreases-same_marks l = length l.some.now

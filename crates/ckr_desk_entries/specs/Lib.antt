@@ -1,0 +1,4 @@
+pub mod EntryRefusal
+pub mod Entries
+pub mod KeptPoint
+pub mod Continuation
