@@ -128,6 +128,7 @@ trusted-room told content may_leave desk room trusted = record {
   events = trusted.events;
   stands = trusted.stands;
   last = trusted.last;
+  opens_left = trusted.opens_left;
   committed = trusted.committed;
   entries = trusted.entries;
   entries_left = trusted.entries_left;

@@ -1,5 +1,5 @@
 -- Which images of a disk are sound, and what a desk keeps of its disk.
-use Rattle.std.specs.Prelude.{◌≡◌, ℕ, List, [], ◌∷◌, ◌++◌, Option, Result, Ok, Err}
+use Rattle.std.specs.Prelude.{◌≡◌, ℕ, List, [], ◌∷◌, ◌++◌, length, Option, Result, Ok, Err}
 use Rattle.std.specs.List.{flat_map}
 use Rattle.ckr_book.specs.Book.{room_of}
 use Rattle.ckr_events.specs.declared.event.Event.{Event}
@@ -12,7 +12,7 @@ use Rattle.ckr_points.specs.Office.{Office, no_office, office}
 use Rattle.ckr_points.specs.Restart.{Decked}
 use Rattle.ckr_points.specs.Rows.{no_tables}
 use Rattle.ckr_desk_refines.specs.Standing.{StandsForDesk, desk_seen}
-use Rattle.ckr_desk_store.specs.OpenImages.{event_records}
+use Rattle.ckr_desk_store.specs.OpenImages.{Opens, event_records}
 use Rattle.ckr_desk_turn.specs.Desk.{opened as opened_desk}
 use Rattle.ckr_volumes.specs.declared.layout.Layout.{Layout}
 use Rattle.ckr_desk.specs.declared.error.OpenError.{OpenError}
@@ -90,14 +90,17 @@ module _ {D : Type 0} (content : D → List ℕ) where
   }
 
 module _ {D : Type 0} (told : Type 0) (content : D → List ℕ) (may_leave : D → List ℕ → Type 0) where
-  -- The disk tells what it holds. Its events are sound and have brought about the tables; the jobs in memory stand for the desk of the events; each image has what
-  -- the events have committed, once the record is written again that the last of them tells; and what the disk reads has the entries that they keep, as each image has.
+  -- The disk tells what it holds. Its events are sound and have brought about the tables; the jobs in memory stand for the desk of the events; each image opens with
+  -- the same events, and has what they have committed, once the record is written again that the last of them tells; and what the disk reads has the entries that they
+  -- keep, as each image has.
   pub record IsTrusted (desk : DeskView D) : Type 0 where
     pub tells : told
     pub opens : behind_records desk.store.layout no_tables 0 (event_records desk.store.layout (content desk.store.disk)) ≡ Ok desk.jobs.tables.desk
     pub events : AreSound desk.store.layout (events_in (event_records desk.store.layout (content desk.store.disk)))
     pub stands : StandsForDesk desk.store.layout desk.jobs (content desk.store.disk) (state_of content desk).desk
     pub last : HasLast (office_on desk.store.layout (content desk.store.disk)) (last_on desk.store.layout (content desk.store.disk))
+    pub opens_left : (image : List ℕ) → may_leave desk.store.disk image
+        → Opens desk.store.layout (length image) (λ records. records ≡ event_records desk.store.layout (content desk.store.disk)) image
     pub committed : (image : List ℕ) → may_leave desk.store.disk image
         → HasCommittedAgain desk.store.layout (office_on desk.store.layout (content desk.store.disk)) (last_on desk.store.layout (content desk.store.disk)) image
     pub entries : HasEntries desk.store.layout (office_on desk.store.layout (content desk.store.disk)) (content desk.store.disk)

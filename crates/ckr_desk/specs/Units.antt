@@ -1,5 +1,5 @@
 -- A unit of a running step, and what goes on behind what a turn comes to, on any disk.
-use Rattle.std.specs.Prelude.{◌≡◌, ◌⊎◌, ◌++◌, ◌∷◌, [], ℕ, Bool, true, false, List, find, IfErr, IfOk, OnOk, Option, Some, None, Result}
+use Rattle.std.specs.Prelude.{◌≡◌, ◌⊎◌, ◌++◌, ◌∷◌, [], ℕ, Bool, true, false, List, find, length, IfErr, IfOk, OnOk, Option, Some, None, Result}
 use Rattle.std.specs.Option.{option_map_or}
 use Rattle.ckr_console.specs.declared.question.Answer.{Answer}
 use Rattle.ckr_events.specs.declared.event.Event.{Event}
@@ -111,6 +111,12 @@ abbrev pub HasGoneBehind : {D : Type 0} → Type 0 → (D → List ℕ) → (D �
 HasGoneBehind told content may_leave (Tell reply event) old new = HasGoneOn event None old new × (told → HasWrittenBehind content may_leave event old new)
 HasGoneBehind told content may_leave (Wait job code) old new = HasWaited job code old.jobs new.jobs × (new.store ≡ old.store)
 HasGoneBehind told content may_leave _ old new = new ≡ old
+
+-- an image opens with the events before, and with the one that was kept
+abbrev pub OpensBehind : {D : Type 0} → (D → List ℕ) → (D → List ℕ → Type 0) → Option Event → DeskView D → DeskView D → Type 0
+OpensBehind content may_leave None old new = Unit {0}
+OpensBehind content may_leave (Some event) old new = (image : List ℕ) → may_leave new.store.disk image
+    → Opens old.store.layout (length image) (λ records. records ≡ event_records old.store.layout (content old.store.disk) ++ spelling event ∷ []) image
 
 -- a plan that tells an event or none, and asks nobody
 abbrev pub IsSettledPlan : Plan → Type 0

@@ -14,7 +14,7 @@ ghost use Rattle.ckr_desk.specs.NoChange.{HasHalted, StaysBy};
 ghost use Rattle.ckr_desk.specs.Soundness.{state_of};
 ghost use Rattle.ckr_desk.specs.Turn.{AnswerStands, asks};
 ghost use Rattle.ckr_desk.specs.Continuation.{PlanKnows, PlanStandsAt};
-ghost use Rattle.ckr_desk.specs.Units.{HasGoneBehind, HasTurned, IsLeftBehind, IsPlanned, IsSettledPlan, NotBehind};
+ghost use Rattle.ckr_desk.specs.Units.{HasGoneBehind, HasTurned, IsLeftBehind, IsPlanned, IsSettledPlan, NotBehind, OpensBehind};
 ghost use Rattle.ckr_desk_turn.specs.Turns.{MountedTurn};
 
 use crate::preparation::Ready;
@@ -38,6 +38,7 @@ impl<D: Disk, O: Operator> Desk<D, O> {
         ensures reply { IfOk result (λ reply. reply ≡ reply_in plan) }
         ensures spelled { IfOk result IsToldReply }
         ensures gone { OnOk result (HasGoneBehind D.told D.content D.may_leave plan self.old self.new) }
+        ensures opens { D.told → OnOk result (OpensBehind D.content D.may_leave (event_in plan) self.old self.new) }
         ensures left { D.told → EachSince D.moment D.left_since self.old.store.disk self.new.store.disk (IsLeftBehind D.content D.may_leave D.size (event_in plan) self.old) }
         ensures machine_room { self.new.machine_room ≡ self.old.machine_room }
         ensures is_open { OnOk result (self.new.store.fault ≡ None) }

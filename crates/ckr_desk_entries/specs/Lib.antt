@@ -2,3 +2,4 @@ pub mod EntryRefusal
 pub mod Entries
 pub mod KeptPoint
 pub mod Continuation
+pub mod Tables

@@ -4,8 +4,6 @@ pub use Rattle.ckr_desk_plans.specs.Model.RewriteCounts
 pub use Rattle.ckr_desk_plans.specs.Model.Holdings
 pub use Rattle.ckr_desk_plans.specs.Model.Cause
 pub use Rattle.ckr_desk_plans.specs.Model.Refusal
-pub use Rattle.ckr_points_tables.specs.Checkpoint
-pub use Rattle.ckr_points_tables.specs.Entries
 pub use Rattle.ckr_points_tables.specs.Invariant
 pub use Rattle.ckr_points_tables.specs.RunJobs
 pub use Rattle.ckr_points_tables.specs.RunRows

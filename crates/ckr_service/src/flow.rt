@@ -116,7 +116,6 @@ impl<D: Disk, O: Operator> Flow<D, O> {
         ensures few { OnOk result (self.new.session.number + length self.new.partial.items ≤ self.old.session.number + length self.old.partial.items + 1) }
         ensures cards { OnOk result (HasFewCards self.new.session) }
     {
-        let _layout = self.session.clerk.desk.layout();
         if byte == b'\n' {
             return self.end_line(sink);
         }
@@ -141,7 +140,6 @@ impl<D: Disk, O: Operator> Flow<D, O> {
         ensures few { OnOk result (self.new.session.number + length self.new.partial.items ≤ self.old.session.number + length self.old.partial.items + length piece.now) }
         ensures cards { OnOk result (HasFewCards self.new.session) }
     {
-        let _layout = self.session.clerk.desk.layout();
         for byte in piece {
             self.byte(*byte, sink)?;
         }

@@ -55,7 +55,6 @@ fn feed_all<S: Source, K: Sink, D: Disk, O: Operator>(
     ensures disk_later { D.faults (disk_of flow.old.session.clerk.desk) ≤ D.faults (disk_of flow.new.session.clerk.desk) }
     ensures size { D.size (disk_of flow.new.session.clerk.desk) ≡ D.size (disk_of flow.old.session.clerk.desk) }
 {
-    let _layout = flow.session.clerk.desk.layout();
     let mut buffer = [0u8; PIECE_BYTES];
     let mut count = 0;
     loop {

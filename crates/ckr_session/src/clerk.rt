@@ -109,7 +109,6 @@ fn change_job<D: Disk, O: Operator>(
     ensures kept { IsOpen desk.old → IsTrusted D.told D.content D.may_leave desk.old
         → KeepsWithin D.content D.moment D.left_since D.size desk.old desk.new (came_by result (spelled (event_in (call_for change (tables_in_memory desk.old) job)))) }
 {
-    let _layout = desk.layout();
     match change {
         JobChange::Purge => desk.purge(job),
         JobChange::Release => desk.release(job),
@@ -148,7 +147,6 @@ impl<D: Disk, O: Operator> Clerk<D, O> {
         ensures cause { IfErr result (λ halt. HaltCause (IsTrusted D.told D.content D.may_leave self.old.desk) halt (D.faults (disk_of self.old.desk)) (D.faults (disk_of self.new.desk))) }
         ensures long { 81 * 100000 < length deck.now → self.new.desk ≡ self.old.desk }
     {
-        let _layout = self.desk.layout();
         match deck.bytes() {
             Some(cards) => self.submit(cards, out),
             None => self.refuse_long(deck, out),
@@ -166,7 +164,6 @@ impl<D: Disk, O: Operator> Clerk<D, O> {
         ensures halt { IsTrusted D.told D.content D.may_leave self.old.desk → IfErr result (λ halt. Stopped D.content D.moment D.left_since D.size self.old.desk (disk_of self.new.desk) (HaltsSo halt (staffed_of D.content self.old) (Deck deck.now ∷ []) out.old out.new)) }
         ensures memory { IfErr result (λ halt. halt ≡ Halt.Memory) }
     {
-        let _layout = self.desk.layout();
         match refusal_of(self.alloc, deck) {
             Ok(fault) => self.refuse_deck(fault.number, fault.card, out),
             Err(NoMemory) => Err(Halt::Memory),
@@ -189,14 +186,8 @@ impl<D: Disk, O: Operator> Clerk<D, O> {
         ensures cause { IfErr result (λ halt. HaltCause (IsTrusted D.told D.content D.may_leave self.old.desk) halt (D.faults (disk_of self.old.desk)) (D.faults (disk_of self.new.desk))) }
     {
         match self.desk.submit(cards) {
-            Ok(Submitted::Job(number)) => {
-                let _layout = self.desk.layout();
-                self.accept(number, out)
-            }
-            Ok(Submitted::Refused { number, card }) => {
-                let _layout = self.desk.layout();
-                self.refuse_deck(number, card, out)
-            }
+            Ok(Submitted::Job(number)) => self.accept(number, out),
+            Ok(Submitted::Refused { number, card }) => self.refuse_deck(number, card, out),
             Err(DeskError::NoMemory) => Err(Halt::Memory),
             Err(DeskError::BookFull { .. }) => Err(Halt::Book),
             Err(DeskError::DiskFault) => Err(Halt::Disk),
@@ -335,14 +326,8 @@ impl<D: Disk, O: Operator> Clerk<D, O> {
         ensures cause { IfErr result (λ halt. HaltCause (IsTrusted D.told D.content D.may_leave self.old.desk) halt (D.faults (disk_of self.old.desk)) (D.faults (disk_of self.new.desk))) }
     {
         match change_job(&mut self.desk, change, job) {
-            Ok(true) => {
-                let _layout = self.desk.layout();
-                tell_changed(change, job, out)
-            }
-            Ok(false) => {
-                let _layout = self.desk.layout();
-                self.refuse_line(number, out)
-            }
+            Ok(true) => tell_changed(change, job, out),
+            Ok(false) => self.refuse_line(number, out),
             Err(DeskError::NoMemory) => Err(Halt::Memory),
             Err(DeskError::BookFull { .. }) => Err(Halt::Book),
             Err(DeskError::DiskFault) => Err(Halt::Disk),
@@ -404,7 +389,6 @@ impl<D: Disk, O: Operator> Clerk<D, O> {
         ensures halt { IsTrusted D.told D.content D.may_leave self.old.desk → IfErr result (λ halt. Stopped D.content D.moment D.left_since D.size self.old.desk (disk_of self.new.desk) (HaltsSo halt (staffed_of D.content self.old) (Refusal number ∷ []) out.old out.new)) }
         ensures memory { IfErr result (λ halt. halt ≡ Halt.Memory) }
     {
-        let _layout = self.desk.layout();
         self.refuse_line(number, out)
     }
 }

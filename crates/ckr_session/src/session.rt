@@ -55,7 +55,6 @@ fn end_deck<D: Disk, O: Operator>(
     ensures cause { IfErr result (λ halt. HaltCause (IsTrusted D.told D.content D.may_leave clerk.old.desk) halt (D.faults (disk_of clerk.old.desk)) (D.faults (disk_of clerk.new.desk))) }
     ensures deck { OnOk result (deck.new ≡ []) }
 {
-    let _layout = clerk.desk.layout();
     if deck.is_empty() {
         return Ok(());
     }
@@ -83,7 +82,6 @@ fn end_before<D: Disk, O: Operator>(
     ensures cause { IfErr result (λ halt. HaltCause (IsTrusted D.told D.content D.may_leave clerk.old.desk) halt (D.faults (disk_of clerk.old.desk)) (D.faults (disk_of clerk.new.desk))) }
     ensures deck { OnOk result (deck.new ≡ cards_left kind deck.old) }
 {
-    let _layout = clerk.desk.layout();
     match kind {
         Line::Card => Ok(()),
         Line::Starts | Line::Ends | Line::Command | Line::Stray | Line::Ignored => {
@@ -127,7 +125,6 @@ fn serve_line<K: Sink, D: Disk, O: Operator>(
     ensures sink_later { K.faults sink.old ≤ K.faults sink.new }
     ensures failed { lines.new.failed ≡ true → Rose (K.faults sink.old) (K.faults sink.new) }
 {
-    let _layout = clerk.desk.layout();
     match kind {
         Line::Command => clerk.obey(number, text, lines, sink),
         Line::Stray => clerk.refuse(number, &mut lines.text),

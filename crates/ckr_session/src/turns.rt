@@ -141,10 +141,7 @@ fn one_turn<D: Disk, O: Operator>(desk: &mut Desk<D, O>, turn: Turn) -> Result<R
     ensures cause { IfErr result (λ halt. HaltCause (IsTrusted D.told D.content D.may_leave desk.old) halt (D.faults (disk_of desk.old)) (D.faults (disk_of desk.new))) }
 {
     match desk.turn(turn) {
-        Ok(reply) => {
-            let _layout = desk.layout();
-            Ok(reply)
-        }
+        Ok(reply) => Ok(reply),
         Err(DeskError::NoMemory) => Err(Halt::Memory),
         Err(DeskError::BookFull { .. }) => Err(Halt::Book),
         Err(DeskError::DiskFault) => Err(Halt::Disk),
@@ -187,7 +184,6 @@ pub fn turned<K: Sink, D: Disk, O: Operator>(
     ensures sink_later { K.faults sink.old ≤ K.faults sink.new }
     ensures failed { lines.new.failed ≡ true → Rose (K.faults sink.old) (K.faults sink.new) }
 {
-    let _layout = desk.layout();
     let mut waiting = None;
     for _ in 0..count {
         lines.write(sink);

@@ -39,6 +39,7 @@ use Rattle.ckr_desk.specs.Calls.{HasGoneOn, IsLeftBy, may_keep}
 use Rattle.ckr_desk.specs.Rewrite.{OpensSame}
 use Rattle.ckr_desk.specs.Soundness.{HasKept, IsTrusted, office_on, state_of}
 use Rattle.ckr_desk.specs.State.{RoomyDesk, DeskView, need_of}
+use Rattle.ckr_desk.specs.Units.{OpensBehind}
 
 module _ {D : Type 0} (told : Type 0) (content : D → List ℕ) (may_leave : D → List ℕ → Type 0) (size : D → ℕ)
     (old : DeskView D) (trusted : IsTrusted told content may_leave old) where
@@ -97,8 +98,8 @@ module _ {D : Type 0} (told : Type 0) (content : D → List ℕ) (may_leave : D 
     module _ (new : DeskView D) (same : new.store.layout ≡ layout) (gone : HasGoneOn event deck old new)
         (events : event_records layout (content new.store.disk) ≡ event_records layout (content old.store.disk) ++ spelling event ∷ [])
         (records : HasSameRecords layout (content old.store.disk) (content new.store.disk)) (settled : Only (content new.store.disk) (may_leave new.store.disk)) where
-      pub called-trusted : IsTrusted told content may_leave new
-      called-trusted = trusted-behind told content may_leave event old new (behind event deck desk) (coming gone.might) (behind-so new same gone events records settled) trusted
+      pub called-trusted : OpensBehind content may_leave (Some event) old new → IsTrusted told content may_leave new
+      called-trusted opens = trusted-behind told content may_leave event old new (behind event deck desk) (coming gone.might) (behind-so new same gone events records settled) opens trusted
 
       pub called-fits : call_fits (state_of content old) (Some (event, deck)) ≡ true
       unfolding call_fits

@@ -27,7 +27,7 @@ use Rattle.ckr_desk.proofs.Turns.Preparation.{same-unchanged}
 use Rattle.ckr_desk.proofs.Calls.Events.{IsCalled, called-deck, called-kept, called-purged, called-released, called-state, called-trusted}
 use Rattle.ckr_desk.proofs.Calls.CardCounts.{accepted-deck, few-accepted}
 use Rattle.ckr_desk.proofs.Images.Soundness.{kept-left}
-use Rattle.ckr_desk.proofs.Calls.Stops.{opens-so}
+use Rattle.ckr_desk.proofs.Calls.Stops.{kept-opens, opens-so}
 use Rattle.ckr_desk.specs.declared.error.DeskError.{DeskError}
 use Rattle.ckr_desk.specs.declared.error.DeskError.TheVariants.{NoMemory, DiskFault, BookFull, Stopped}
 use Rattle.ckr_desk.specs.Requests.{FailsBy, MayFail, TellsFull, behind_call, came_by, event_in, has_room, spelled}
@@ -148,12 +148,26 @@ module _ {D : Type 0} (told : Type 0) (content : D → List ℕ) (may_leave : D 
     call-state None its done events records settled = ap (state_of content) done
     call-state (Some call) its done events records settled = called-state told content may_leave size old trusted call.0 call.1 its new same done events records settled
 
-    pub call-trusted : (call : Option Decked) → IsCalledSo call → HasDone call old new
-        → event_records layout (content new.store.disk) ≡ with_event before call
-        → HasSameRecords layout (content old.store.disk) (content new.store.disk) → IsSettledBehind content may_leave (event_in call) new
-        → IsTrusted told content may_leave new
-    call-trusted None its done events records settled = subst (IsTrusted told content may_leave) (sym done) trusted
-    call-trusted (Some call) its done events records settled = called-trusted told content may_leave size old trusted call.0 call.1 its new same done events records settled
+    module _ (moment : D → ℕ) (left_since : D → ℕ → List ℕ → Type 0)
+        (counts : (t : ℕ) (image : List ℕ) → t ≤ moment new.store.disk → may_leave new.store.disk image → left_since new.store.disk t image)
+        (long : (image : List ℕ) → may_leave new.store.disk image → length image ≡ size old.store.disk) where
+      trusted-by : (call : Option Decked) → IsCalledSo call → EachSince moment left_since old.store.disk new.store.disk (IsLeftByCall content may_leave size call old) → HasDone call old new
+          → event_records layout (content new.store.disk) ≡ with_event before call
+          → HasSameRecords layout (content old.store.disk) (content new.store.disk) → IsSettledBehind content may_leave (event_in call) new
+          → IsTrusted told content may_leave new
+      trusted-by None its left done events records settled = subst (IsTrusted told content may_leave) (sym done) trusted
+      trusted-by (Some call) its left done events records settled =
+          called-trusted told content may_leave size old trusted call.0 call.1 its new same done events records settled
+          (kept-opens told content may_leave moment left_since size call.0 call.1 old new left counts long events settled)
+
+      pub call-trusted : {T : Type 0} (call : Option Decked) → IsCalledSo call
+          → (old.store.fault ≡ None → EachSince moment left_since old.store.disk new.store.disk (IsLeftByCall content may_leave size call old))
+          → (result : Result T DeskError) → OnOk result (old.store.fault ≡ None) → OnOk result (HasDone call old new)
+          → OnOk result (event_records layout (content new.store.disk) ≡ with_event before call)
+          → OnOk result (HasSameRecords layout (content old.store.disk) (content new.store.disk)) → OnOk result (IsSettledBehind content may_leave (event_in call) new)
+          → OnOk result (IsTrusted told content may_leave new)
+      call-trusted call its left (Ok x) is_open done events records settled = trusted-by call its (left is_open) done events records settled
+      call-trusted call its left (Err error) is_open done events records settled = tt
 
   module _ (moment : D → ℕ) (left_since : D → ℕ → List ℕ → Type 0) (sound : IsSound content may_leave size old.store) (is_open : old.store.fault ≡ None) where
     -- an image of before
@@ -170,7 +184,7 @@ module _ {D : Type 0} (told : Type 0) (content : D → List ℕ) (may_leave : D 
         in_other_words moment left_since old.store.disk new.store.disk (IsLeftByCall content may_leave size call old) (HasKept layout (size old.store.disk) before (spelled (event_in call))) left (image-kept call its)
 
     -- nothing was done
-    pub none-kept : ((image : List ℕ) → left_since old.store.disk (moment old.store.disk) image → may_leave old.store.disk image) → KeepsWithin content moment left_since size old old []
+    none-kept : ((image : List ℕ) → left_since old.store.disk (moment old.store.disk) image → may_leave old.store.disk image) → KeepsWithin content moment left_since size old old []
     none-kept only = started moment left_since old.store.disk (HasKept layout (size old.store.disk) before []) (λ image left. kept-now image (only image left))
 
     -- by what was answered: want of memory and a full book leave the disk as it was

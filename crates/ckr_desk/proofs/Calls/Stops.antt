@@ -1,7 +1,7 @@
 -- What a stop leaves within a call that keeps an event.
-use Rattle.std.proofs.Common.{◌≡◌, ◌≤◌, ◌<◌, ◌&&◌, ℕ, List, IsTrue, Option, None, Some, true, ⊎_elim, inl, inr, ap, subst, sym, refl, arith, ◌∙◌}
+use Rattle.std.proofs.Common.{◌≡◌, ◌≤◌, ◌<◌, ◌&&◌, ◌++◌, ◌∷◌, [], ℕ, List, length, take, IsTrue, Option, None, Some, Ok, true, ⊎_elim, inl, inr, ap, subst, sym, refl, arith, ◌∙◌}
 use Rattle.ckr_base.proofs.Options.{some-not-none}
-use Rattle.ckr_book.specs.Book.{IsBeforeOrAfter, room_of}
+use Rattle.ckr_book.specs.Book.{IsBeforeOrAfter, ends_closed, room_of}
 use Rattle.ckr_events.specs.declared.event.Event.{Event}
 use Rattle.ckr_events.specs.Event.{spelling}
 use Rattle.ckr_desk_refines.specs.Memory.EventChanges.{points_behind}
@@ -10,8 +10,8 @@ use Rattle.ckr_jcl.specs.declared.deck.Job.{Job}
 use Rattle.ckr_desk_refines.specs.Memory.RunningSteps.{GoesOn}
 use Rattle.ckr_desk_refines.specs.Memory.View.{JobsView, PointView, RunningStepView}
 use Rattle.ckr_library.specs.declared.sets.DataSet.{DataSet}
-use Rattle.ckr_outside.specs.Disk.{ChangesWithin, EachSince, Only, OnlyReads, SameOutside, StemsFrom}
-use Rattle.ckr_outside.specs.Moments.{and_then, both_since, in_other_words, started}
+use Rattle.ckr_outside.specs.Disk.{ChangesWithin, EachSince, Only, OnlyReads, SameOutside, StemsFrom, part}
+use Rattle.ckr_outside.specs.Moments.{and_then, at_the_end, both_since, in_other_words, started}
 use Rattle.ckr_points.specs.Follows.{follows}
 use Rattle.ckr_points.specs.Restart.{after_event}
 use Rattle.ckr_points.specs.Rows.{TablesModel}
@@ -24,6 +24,7 @@ use Rattle.ckr_desk_store.specs.declared.error.StoreError.{StoreError}
 use Rattle.ckr_desk_store.specs.declared.error.StoreError.TheVariants as OfStore
 use Rattle.ckr_desk_turn.specs.Desk.{failed_behind}
 use Rattle.ckr_volumes.specs.declared.layout.Layout.{Layout}
+use Rattle.ckr_volumes.specs.Header.{header_of}
 use Rattle.ckr_volumes.specs.Layouts.{is_laid_out}
 use Rattle.ckr_desk.proofs.Images.Records.{records-stay}
 use Rattle.ckr_desk.proofs.Openings.Answers.{rose_before}
@@ -92,6 +93,30 @@ module _ {D : Type 0} (told : Type 0) (content : D → List ℕ) (may_leave : D 
   -- between two calls
   pub opens-so : (old : DeskView D) → IsSound content may_leave size old.store → old.store.fault ≡ None → (image : List ℕ) → may_leave old.store.disk image → OpensSame content size old image
   opens-so old sound is_open image now = opens_now told content may_leave moment left_since size old.store sound is_open image now
+
+  -- the same by an image's own length
+  pub opens-long : (old : DeskView D) → IsSound content may_leave size old.store → old.store.fault ≡ None → (image : List ℕ) → may_leave old.store.disk image → length image ≡ size old.store.disk
+      → Opens old.store.layout (length image) (λ records. records ≡ event_records old.store.layout (content old.store.disk)) image
+  opens-long old sound is_open image now long =
+      subst (λ n. Opens old.store.layout n (λ records. records ≡ event_records old.store.layout (content old.store.disk)) image) (sym long) (opens-so old sound is_open image now)
+
+  -- behind an event that was kept, where a stop leaves what a read gives
+  pub kept-opens : (event : Event) (deck : Option Job) (old new : DeskView D) → EachSince moment left_since old.store.disk new.store.disk (IsLeftBy content may_leave size event deck old)
+      → ((t : ℕ) (image : List ℕ) → t ≤ moment new.store.disk → may_leave new.store.disk image → left_since new.store.disk t image)
+      → ((image : List ℕ) → may_leave new.store.disk image → length image ≡ size old.store.disk)
+      → event_records old.store.layout (content new.store.disk) ≡ event_records old.store.layout (content old.store.disk) ++ spelling event ∷ []
+      → Only (content new.store.disk) (may_leave new.store.disk) → (image : List ℕ) → may_leave new.store.disk image
+      → Opens old.store.layout (length image) (λ records. records ≡ event_records old.store.layout (content old.store.disk) ++ spelling event ∷ []) image
+  kept-opens event deck old new left counts long events settled image may =
+      ⊎_elim
+      (λ (was : OpensSame content size old image × may_leave old.store.disk image). by was.0.head was.0.closed)
+      (λ (now : (may_keep event deck old ≡ true) × Opens old.store.layout (size old.store.disk) (IsBeforeOrAfter (event_records old.store.layout (content old.store.disk)) (spelling event)) image
+      × HasSameRecords old.store.layout (content old.store.disk) image). by now.1.head now.1.closed)
+      (at_the_end moment may_leave left_since old.store.disk new.store.disk (IsLeftBy content may_leave size event deck old) left counts image may)
+    where
+      by : header_of (take 512 image) (size old.store.disk) ≡ Ok old.store.layout → ends_closed (part 512 old.store.layout.book image)
+          → Opens old.store.layout (length image) (λ records. records ≡ event_records old.store.layout (content old.store.disk) ++ spelling event ∷ []) image
+      by head closed = record { head = ap (header_of (take 512 image)) (long image may) ∙ head; list = ap (event_records old.store.layout) (settled image may) ∙ events; closed = closed }
 
   -- the disk was only read
   pub read-left : (old : DeskView D) (new : D) → IsSound content may_leave size old.store → old.store.fault ≡ None → OnlyReads content may_leave moment left_since old.store.disk new

@@ -62,6 +62,7 @@ use Rattle.ckr_desk.specs.Rewrite.{OpensSame}
 use Rattle.ckr_desk.specs.Soundness.{HasKept, IsTrusted, KeepsWithin, office_on, state_of}
 use Rattle.ckr_desk.specs.State.{DeskView, RoomyDesk, need_of}
 use Rattle.ckr_desk.specs.Turn.{behind_turn, event_of_turn, reply_of, turn_fits}
+use Rattle.ckr_desk.specs.Units.{OpensBehind}
 
 module _ {D : Type 0} (told : Type 0) (content : D → List ℕ) (may_leave : D → List ℕ → Type 0) (moment : D → ℕ) (left_since : D → ℕ → List ℕ → Type 0) (size : D → ℕ)
     (old : DeskView D) (trusted : IsTrusted told content may_leave old) (turn : MountedTurn) (its : IsMountedTurnOf old.store.layout turn) (run : ℕ) (planned : plan_for old.store.layout (jobs_of old.jobs) turn ≡ Take run)
@@ -205,8 +206,14 @@ module _ {D : Type 0} (told : Type 0) (content : D → List ℕ) (may_leave : D 
           ap (has_room (room_of old.store.book)) event-turn
           ∙ le-leb (need_of event) (room_of old.store.book) (subst (λ room. need_of event ≤ room) room-same gone.fits)
 
-      pub taken-trusted : IsTrusted told content may_leave new
-      taken-trusted = trusted-behind told content may_leave event old new later (coming (might-before gone.might)) behind-so trusted
+      opens-behind : OpensBehind content may_leave (Some event) mid new → (left : List ℕ) → may_leave new.store.disk left → Opens layout (length left) (λ records. records ≡ event_records layout image ++ spelling event ∷ []) left
+      opens-behind opens left may =
+          let by : Opens layout (length left) (λ records. records ≡ event_records layout after ++ spelling event ∷ []) left =
+          subst (λ (l : Layout). Opens l (length left) (λ records. records ≡ event_records l after ++ spelling event ∷ []) left) layout-same (opens left may) in
+          record { head = by.head; list = by.list ∙ ap (λ before. before ++ spelling event ∷ []) (wrote.events trusted.tells); closed = by.closed }
+
+      pub taken-trusted : OpensBehind content may_leave (Some event) mid new → IsTrusted told content may_leave new
+      taken-trusted opens = trusted-behind told content may_leave event old new later (coming (might-before gone.might)) behind-so (opens-behind opens) trusted
 
       pub taken-state : state_of content new ≡ behind_turn (state_of content old) turn answer
       unfolding behind_turn

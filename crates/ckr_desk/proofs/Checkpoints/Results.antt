@@ -1,5 +1,5 @@
 -- What a turn has done that takes a checkpoint, or why it wasn't taken.
-use Rattle.std.proofs.Common.{◌≡◌, ◌++◌, ℕ, List, [], ◌∷◌, None, Ok, Err}
+use Rattle.std.proofs.Common.{◌≡◌, ◌≤◌, ◌++◌, ℕ, List, [], ◌∷◌, length, None, Ok, Err}
 use Rattle.ckr_console.specs.declared.question.Answer.{Answer}
 use Rattle.ckr_events.specs.Event.{spelling}
 use Rattle.ckr_desk_refines.specs.Memory.Checkpoint.{Checkpoint}
@@ -11,6 +11,7 @@ use Rattle.ckr_desk_store.specs.OpenImages.{event_records}
 use Rattle.ckr_desk_turn.specs.declared.plan.Plan.TheVariants.{Take}
 use Rattle.ckr_points.specs.declared.reply.Reply.{Reply}
 use Rattle.ckr_desk_turn.specs.Turns.{IsMountedTurnOf, MountedTurn, plan_for}
+use Rattle.ckr_desk.proofs.Calls.Stops.{kept-opens}
 use Rattle.ckr_desk.proofs.Checkpoints.Entry.{entry-kept}
 use Rattle.ckr_desk.proofs.Checkpoints.Event.{taken-events, taken-fits, taken-kept-within, taken-state, taken-trusted}
 use Rattle.ckr_desk.specs.Calls.{HasGoneOn, IsLeftBy, NotEntered}
@@ -69,16 +70,19 @@ module _ {D : Type 0} (told : Type 0) (content : D → List ℕ) (may_leave : D 
     untold-turned faults (Stopped fault) not = absurd not
 
     -- it was
-    pub taken-turned : (reply : Reply) → reply ≡ reply_of state turn answer → HasGoneOn made.event None mid new
+    pub taken-turned : ((t : ℕ) (image : List ℕ) → t ≤ moment new.store.disk → may_leave new.store.disk image → left_since new.store.disk t image)
+        → ((image : List ℕ) → may_leave new.store.disk image → length image ≡ size mid.store.disk)
+        → (reply : Reply) → reply ≡ reply_of state turn answer → HasGoneOn made.event None mid new
         → event_records mid.store.layout (content new.store.disk) ≡ event_records mid.store.layout (content mid.store.disk) ++ spelling made.event ∷ []
         → HasSameRecords mid.store.layout (content mid.store.disk) (content new.store.disk) → Only (content new.store.disk) (may_leave new.store.disk)
         → HasTurned told content may_leave moment left_since size turn answer old new (Ok reply)
-    taken-turned reply its_reply gone events records settled = record {
+    taken-turned counts long reply its_reply gone events records settled = record {
       reply = its_reply;
       fits = taken-fits told content may_leave moment left_since size old trusted turn its run planned made is answer mid wrote new gone events records settled;
       after = taken-state told content may_leave moment left_since size old trusted turn its run planned made is answer mid wrote new gone events records settled;
       events = taken-events told content may_leave moment left_since size old trusted turn its run planned made is answer mid wrote new gone events records settled;
-      trusted = taken-trusted told content may_leave moment left_since size old trusted turn its run planned made is answer mid wrote new gone events records settled;
+      trusted = taken-trusted told content may_leave moment left_since size old trusted turn its run planned made is answer mid wrote new gone events records settled
+          (kept-opens told content may_leave moment left_since size made.event None mid new second counts long events settled);
       cause = tt;
       takes = tt;
       kept = taken-kept-within told content may_leave moment left_since size old trusted turn its run planned made is answer mid wrote sized new first second;

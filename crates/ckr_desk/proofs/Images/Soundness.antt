@@ -1,5 +1,5 @@
 -- Which images of a stop are sound.
-use Rattle.std.proofs.Common.{◌≡◌, ◌++◌, ◌-◌, ℕ, List, [], ◌∷◌, Bool, cond, take, refl, ap, sym, ◌∙◌, subst, append-nil, Option, Some, None, Result, Ok, Err}
+use Rattle.std.proofs.Common.{◌≡◌, ◌++◌, ◌-◌, ℕ, List, [], ◌∷◌, Bool, cond, length, take, refl, ap, sym, ◌∙◌, subst, append-nil, Option, Some, None, Result, Ok, Err}
 use Rattle.ckr_book.specs.Book.{ends_closed}
 use Rattle.ckr_book.specs.Records.{end_from}
 use Rattle.ckr_events.specs.declared.event.Event.{Event}
@@ -12,6 +12,7 @@ use Rattle.ckr_desk_refines.specs.Entries.{HasEntries}
 use Rattle.ckr_desk_refines.specs.Moves.{HasSameRecords}
 use Rattle.ckr_desk_refines.proofs.Events.Commits.{committed-moves}
 use Rattle.ckr_outside.specs.Disk.{part}
+use Rattle.ckr_outside.specs.Moments.{started}
 use Rattle.ckr_points.specs.Events.{AreSound}
 use Rattle.ckr_points.specs.Office.{Office, office_with}
 use Rattle.ckr_points.specs.Restart.{after_event}
@@ -29,7 +30,7 @@ use Rattle.ckr_desk.specs.declared.error.OpenError.{OpenError}
 use Rattle.ckr_desk.specs.declared.error.OpenError.TheVariants.{BadBook}
 use Rattle.ckr_desk.specs.Entries.{bad_entry}
 use Rattle.ckr_desk.specs.Opening.{behind_records, by_end, by_entries, opened_at, refused_or}
-use Rattle.ckr_desk.specs.Soundness.{HasKept, IsTrusted, Sound, events_in, last_on, office_on}
+use Rattle.ckr_desk.specs.Soundness.{HasKept, IsTrusted, KeepsWithin, Sound, events_in, last_on, office_on}
 use Rattle.ckr_desk.specs.State.{Opened, DeskView}
 use Rattle.ckr_desk.specs.Rewrite.{OpensSame}
 
@@ -101,6 +102,14 @@ module _ {D : Type 0} (told : Type 0) (content : D → List ℕ) (may_leave : D 
   -- one that the disk might have left before
   pub kept-left : (came : List (List ℕ)) (image : List ℕ) → OpensSame content size old image → may_leave old.store.disk image → HasKept layout (size old.store.disk) before came image
   kept-left came image opens may = kept-before came image opens (trusted.committed image may) (trusted.entries_left image may)
+
+  -- nothing is done
+  pub kept-still : (moment : D → ℕ) (left_since : D → ℕ → List ℕ → Type 0) → ((image : List ℕ) → left_since old.store.disk (moment old.store.disk) image → may_leave old.store.disk image)
+      → ((image : List ℕ) → left_since old.store.disk (moment old.store.disk) image → length image ≡ size old.store.disk) → KeepsWithin content moment left_since size old old []
+  kept-still moment left_since only long =
+      started moment left_since old.store.disk (HasKept layout (size old.store.disk) before [])
+      (λ image left.
+      kept-left [] image (subst (λ n. Opens layout n (λ records. records ≡ before) image) (long image left) (trusted.opens_left image (only image left))) (only image left))
 
   -- one with the same records too
   pub kept-same : (came : List (List ℕ)) (image : List ℕ) → OpensSame content size old image → HasSameRecords layout (content old.store.disk) image → HasKept layout (size old.store.disk) before came image

@@ -1,5 +1,5 @@
 -- A desk that was opened on sound images is trusted, and a stop meanwhile leaves a sound image.
-use Rattle.std.proofs.Common.{◌≡◌, ◌-◌, ◌⊎◌, ℕ, Bool, true, false, cond, List, [], take, drop, map, Option, Some, None, Result, Ok, Err, ⊎_elim, refl, sym, ap, ◌∙◌, subst, append-nil}
+use Rattle.std.proofs.Common.{◌≡◌, ◌-◌, ◌⊎◌, ℕ, Bool, true, false, cond, List, [], length, take, drop, map, Option, Some, None, Result, Ok, Err, ⊎_elim, refl, sym, ap, ◌∙◌, subst, append-nil}
 use Rattle.std.proofs.lemmas.Option.{same_Some}
 use Rattle.ckr_base.proofs.Bools.{bool-cases}
 use Rattle.ckr_base.proofs.Options.{some-not-none}
@@ -25,7 +25,7 @@ use Rattle.ckr_points.specs.Rows.{TablesModel, no_tables}
 use Rattle.ckr_points_invariant.specs.Invariant.{IsKept}
 use Rattle.ckr_desk_refines.specs.RewriteRecord.{HasCommittedAgain, HasLast, last_event}
 use Rattle.ckr_desk_refines.specs.Standing.{StandsForDesk, step_on}
-use Rattle.ckr_desk_store.specs.OpenImages.{event_records}
+use Rattle.ckr_desk_store.specs.OpenImages.{Opens, event_records}
 use Rattle.ckr_desk_store.specs.State.{IsSound, StoreView}
 use Rattle.ckr_desk_turn.specs.Desk.{opened as opened_desk}
 use Rattle.ckr_desk_turn.specs.declared.failed_run.FailedRun.{FailedRun}
@@ -266,13 +266,15 @@ module _ {D : Type 0} (told : Type 0) (content : D → List ℕ) (may_leave : D 
         (subst (λ (t : TablesModel). AreRead new.store.layout t (content disk) new.jobs.points) (sym tables-here)
         (points-read told new.store.layout new.jobs.tables.desk (content disk) tells new.jobs.points is.points))
 
-    pub trusted-opened : IsTrusted told content may_leave new
-    trusted-opened = record {
+    pub trusted-opened : ((image : List ℕ) → may_leave new.store.disk image → Opens new.store.layout (length image) (λ records. records ≡ event_records new.store.layout (content new.store.disk)) image)
+        → IsTrusted told content may_leave new
+    trusted-opened opens_left = record {
       tells = tells;
       opens = brings-new;
       events = events-new;
       stands = subst (λ (s : RoomyDesk). StandsForDesk new.store.layout new.jobs (content new.store.disk) s.desk) state-so stands-here;
       last = last-now;
+      opens_left = opens_left;
       committed = again-only new.store.layout (office_on new.store.layout (content new.store.disk)) (last_on new.store.layout (content new.store.disk)) (content new.store.disk) (may_leave new.store.disk) last-now committed-now is.settled;
       entries = entries-now;
       entries_left = λ image may. subst (HasEntries new.store.layout (office_on new.store.layout (content new.store.disk))) (sym (is.settled image may)) entries-now;

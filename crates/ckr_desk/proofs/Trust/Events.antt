@@ -1,5 +1,5 @@
 -- A desk whose disk is trusted, behind an event that was kept.
-use Rattle.std.proofs.Common.{◌≡◌, ◌++◌, ℕ, List, [], ◌∷◌, true, refl, ap, sym, ◌∙◌, subst, Some, Ok}
+use Rattle.std.proofs.Common.{◌≡◌, ◌++◌, ℕ, List, [], ◌∷◌, length, true, refl, ap, sym, ◌∙◌, subst, Some, Ok}
 use Rattle.ckr_events.specs.declared.event.Event.{Event}
 use Rattle.ckr_events.specs.Event.{IsEvent, spelling}
 use Rattle.ckr_desk_refines.specs.Memory.Replay.{deck_of, goes_on}
@@ -15,7 +15,7 @@ use Rattle.ckr_points.specs.Rows.{no_tables}
 use Rattle.ckr_desk_refines.specs.RewriteRecord.{HasCommittedAgain, HasLast, last_event}
 use Rattle.ckr_desk_refines.specs.Standing.{StandsForDesk, desk_seen}
 use Rattle.ckr_desk_refines.proofs.Standing.DeskView.{desk-so}
-use Rattle.ckr_desk_store.specs.OpenImages.{event_records}
+use Rattle.ckr_desk_store.specs.OpenImages.{Opens, event_records}
 use Rattle.ckr_desk_turn.specs.Desk.{DeskModel}
 use Rattle.ckr_volumes.specs.declared.layout.Layout.{Layout}
 use Rattle.ckr_desk.proofs.Images.LastRecord.{again-only}
@@ -23,6 +23,7 @@ use Rattle.ckr_desk.proofs.Images.NextEvent.{events-more, office-grown, opens-gr
 use Rattle.ckr_desk.specs.Opening.{behind_records}
 use Rattle.ckr_desk.specs.Soundness.{IsTrusted, events_in, last_on, office_on, state_of}
 use Rattle.ckr_desk.specs.State.{DeskView}
+use Rattle.ckr_desk.specs.Units.{OpensBehind}
 
 -- the last of events
 last-more : (events : List Decked) (decked : Decked) → last_event (events ++ decked ∷ []) ≡ Some decked.0
@@ -91,8 +92,8 @@ module _ {D : Type 0} (told : Type 0) (content : D → List ℕ) (may_leave : D 
         ∙ ap (λ o. desk_seen layout o new.jobs) (sym office-so)
         ∙ ap (λ l. desk_seen l (office_on l (content new.store.disk)) new.jobs) (sym is.layout)
 
-    pub trusted-behind : IsTrusted told content may_leave old → IsTrusted told content may_leave new
-    trusted-behind trusted = record {
+    pub trusted-behind : OpensBehind content may_leave (Some event) old new → IsTrusted told content may_leave old → IsTrusted told content may_leave new
+    trusted-behind opens trusted = record {
       tells = trusted.tells;
       opens = subst (λ l. behind_records l no_tables 0 (event_records l (content new.store.disk)) ≡ Ok new.jobs.tables.desk) (sym is.layout)
           (ap (λ records. behind_records layout no_tables 0 records) is.events
@@ -107,6 +108,10 @@ module _ {D : Type 0} (told : Type 0) (content : D → List ℕ) (may_leave : D 
       last = subst (λ l. HasLast (office_on l (content new.store.disk)) (last_on l (content new.store.disk))) (sym is.layout)
           (subst (λ o. HasLast o (last_on layout (content new.store.disk))) (sym office-so)
           (subst (λ e. HasLast desk.office e) (sym last-so) coming.last));
+      opens_left = λ image may.
+          subst (λ (l : Layout). Opens l (length image) (λ records. records ≡ event_records l (content new.store.disk)) image) (sym is.layout)
+          (let its : Opens layout (length image) (λ records. records ≡ event_records layout (content old.store.disk) ++ spelling event ∷ []) image = opens image may in
+          record { head = its.head; list = its.list ∙ sym is.events; closed = its.closed });
       committed = λ image may.
           subst (λ l. HasCommittedAgain l (office_on l (content new.store.disk)) (last_on l (content new.store.disk)) image) (sym is.layout)
           (subst (λ o. HasCommittedAgain layout o (last_on layout (content new.store.disk)) image) (sym office-so)

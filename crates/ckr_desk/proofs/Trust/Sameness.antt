@@ -1,5 +1,5 @@
 -- A desk that is the same to its callers is trusted as before.
-use Rattle.std.proofs.Common.{◌≡◌, ◌==◌, ℕ, true, false, List, refl, ap, sym, ◌∙◌, subst, Ok, Option, Some, map}
+use Rattle.std.proofs.Common.{◌≡◌, ◌==◌, ℕ, true, false, List, length, refl, ap, sym, ◌∙◌, subst, Ok, Option, Some, map}
 use Rattle.std.proofs.lemmas.Bool.{false≢true}
 use Rattle.std.specs.Option.{option_map_or}
 use Rattle.ckr_base.proofs.Bools.{and-first}
@@ -16,7 +16,7 @@ use Rattle.ckr_points.specs.declared.run.RunState.{RunState}
 use Rattle.ckr_points.specs.declared.run.RunState.TheVariants.{Queued}
 use Rattle.ckr_desk_refines.specs.RewriteRecord.{HasCommittedAgain, HasLast}
 use Rattle.ckr_desk_refines.specs.Standing.{AllStand, PointsStand, StandsForDesk, StandsForPoint, step_on}
-use Rattle.ckr_desk_store.specs.OpenImages.{event_records}
+use Rattle.ckr_desk_store.specs.OpenImages.{Opens, event_records}
 use Rattle.ckr_desk_turn.specs.Desk.{DeskModel}
 use Rattle.ckr_volumes.specs.declared.layout.Layout.{Layout}
 use Rattle.ckr_desk.specs.Opening.{behind_records}
@@ -98,6 +98,9 @@ module _ {D : Type 0} (told : Type 0) (content : D → List ℕ) (may_leave : D 
           (stands-same old.store.layout old.jobs new.jobs (content old.store.disk) (state_of content old).desk is.jobs trusted.stands)));
       last = subst (λ l. HasLast (office_on l (content new.store.disk)) (last_on l (content new.store.disk))) (sym is.layout)
           (subst (λ bytes. HasLast (office_on old.store.layout bytes) (last_on old.store.layout bytes)) (sym is.reads) trusted.last);
+      opens_left = λ image may.
+          subst (λ (l : Layout). Opens l (length image) (λ records. records ≡ event_records l (content new.store.disk)) image) (sym is.layout)
+          (subst (λ bytes. Opens old.store.layout (length image) (λ records. records ≡ event_records old.store.layout bytes) image) (sym is.reads) (trusted.opens_left image (is.none_new image may)));
       committed = λ image may.
           subst (λ l. HasCommittedAgain l (office_on l (content new.store.disk)) (last_on l (content new.store.disk)) image) (sym is.layout)
           (subst (λ bytes. HasCommittedAgain old.store.layout (office_on old.store.layout bytes) (last_on old.store.layout bytes) image) (sym is.reads)

@@ -36,7 +36,7 @@ use Rattle.ckr_desk.specs.Preparation.{LacksAnswers, MayLack, NotReadyFor, NotSe
 use Rattle.ckr_desk.specs.Rewrite.{OpensSame}
 use Rattle.ckr_desk.specs.NoChange.{HasHalted, IsOfDisk, StaysBy}
 use Rattle.ckr_desk.specs.Turn.{asks, behind_turn, event_of_turn, reply_of, turn_fits}
-use Rattle.ckr_desk.specs.Units.{HasGoneBehind, IsLeftBehind, IsSettledPlan, NotBehind, TakesBy, needs_some}
+use Rattle.ckr_desk.specs.Units.{HasGoneBehind, IsLeftBehind, IsSettledPlan, NotBehind, OpensBehind, TakesBy, needs_some}
 use Rattle.ckr_desk.specs.Soundness.{HasKept, IsTrusted, KeepsWithin, state_of}
 use Rattle.ckr_desk.specs.State.{RoomyDesk, DeskView}
 
@@ -261,16 +261,16 @@ module _ {D : Type 0} (told : Type 0) (content : D → List ℕ) (may_leave : D 
   go-after (Ask inquiry) new is stands shape same gone = absurd is.1
 
   pub go-trusted : (plan : Plan) (new : DeskView D) → ComesTo plan → PlanStandsAt state.desk old.jobs.points plan → IsSpelledPlan plan → new.store.layout ≡ old.store.layout
-      → HasGoneBehind told content may_leave plan old new → IsTrusted told content may_leave new
-  go-trusted (Rest reply) new is stands shape same gone = subst (IsTrusted told content may_leave) (sym gone) trusted
-  go-trusted (Tell reply event) new is stands shape same gone =
+      → HasGoneBehind told content may_leave plan old new → OpensBehind content may_leave (event_in plan) old new → IsTrusted told content may_leave new
+  go-trusted (Rest reply) new is stands shape same gone opens = subst (IsTrusted told content may_leave) (sym gone) trusted
+  go-trusted (Tell reply event) new is stands shape same gone opens =
       trusted-behind told content may_leave event old new _ (coming-turn told content may_leave size old trusted turn its answer reply event is.0 shape.0 gone.0.might)
-      (behind-turn-so told content may_leave size old trusted turn its answer reply event is.0 shape.0 stands new same trusted.tells gone) trusted
-  go-trusted (Wait job code) new is stands shape same gone = wait-trusted job code is new gone
-  go-trusted (Work job) new is stands shape same gone = absurd is.1
-  go-trusted (Pass job reply) new is stands shape same gone = absurd is.1
-  go-trusted (Take job) new is stands shape same gone = absurd is.1
-  go-trusted (Ask inquiry) new is stands shape same gone = absurd is.1
+      (behind-turn-so told content may_leave size old trusted turn its answer reply event is.0 shape.0 stands new same trusted.tells gone) opens trusted
+  go-trusted (Wait job code) new is stands shape same gone opens = wait-trusted job code is new gone
+  go-trusted (Work job) new is stands shape same gone opens = absurd is.1
+  go-trusted (Pass job reply) new is stands shape same gone opens = absurd is.1
+  go-trusted (Take job) new is stands shape same gone opens = absurd is.1
+  go-trusted (Ask inquiry) new is stands shape same gone opens = absurd is.1
 
   -- what a stop leaves
   image-left : (plan : Plan) → ComesTo plan → IsSpelledPlan plan

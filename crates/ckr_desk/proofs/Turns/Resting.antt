@@ -70,6 +70,7 @@ module _ {D : Type 0} (told : Type 0) (content : D → List ℕ) (may_leave : D 
       events = trusted.events;
       stands = subst (StandsForDesk layout jobs (content old.store.disk)) desk-then stands-then;
       last = trusted.last;
+      opens_left = trusted.opens_left;
       committed = trusted.committed;
       entries = trusted.entries;
       entries_left = trusted.entries_left;

@@ -1,13 +1,14 @@
 -- What a stop leaves while a turn goes on behind what it comes to.
-use Rattle.std.proofs.Common.{◌≡◌, ◌++◌, ◌∷◌, ℕ, List, [], None, Some, ⊎_elim, inl, inr, sym, subst}
+use Rattle.std.proofs.Common.{◌≡◌, ◌≤◌, ◌++◌, ◌∷◌, ◌∙◌, ℕ, List, [], length, take, None, Some, ⊎_elim, inl, inr, ap, sym, subst}
 use Rattle.ckr_events.specs.declared.event.Event.{Event}
 use Rattle.ckr_events.specs.Event.{spelling}
 use Rattle.ckr_outside.specs.Disk.{EachSince}
-use Rattle.ckr_outside.specs.Moments.{and_then, in_other_words}
+use Rattle.ckr_outside.specs.Moments.{and_then, at_the_end, in_other_words}
 use Rattle.ckr_points.specs.Restart.{after_event}
 use Rattle.ckr_desk_refines.specs.Moves.{HasSameRecords}
 use Rattle.ckr_desk_store.specs.OpenImages.{event_records, Opens}
 use Rattle.ckr_volumes.specs.declared.layout.Layout.{Layout}
+use Rattle.ckr_volumes.specs.Header.{header_of}
 use Rattle.ckr_desk.specs.Calls.{HasGoneOn, IsLeftBy}
 use Rattle.ckr_desk.specs.Rewrite.{IsLackingBy, LacksAtMost, OpensSame}
 use Rattle.ckr_desk.specs.Units.{IsLeftBehind}
@@ -55,3 +56,16 @@ module _ {D : Type 0} (told : Type 0) (content : D → List ℕ) (may_leave : D 
                 (subst (λ t. LacksAtMost mid.store.layout t event (content mid.store.disk) image) gone.moved.tables lacks);
           }))
           lacking.1
+
+  -- and an image opens with the events before, and with this one
+  pub rewritten-opens : (event : Event) (old mid new : DeskView D) → mid.store.layout ≡ old.store.layout
+      → event_records old.store.layout (content mid.store.disk) ≡ event_records old.store.layout (content old.store.disk) ++ spelling event ∷ []
+      → EachSince moment left_since mid.store.disk new.store.disk (IsLackingBy content size event mid)
+      → ((t : ℕ) (image : List ℕ) → t ≤ moment new.store.disk → may_leave new.store.disk image → left_since new.store.disk t image)
+      → ((image : List ℕ) → may_leave new.store.disk image → length image ≡ size mid.store.disk) → (image : List ℕ) → may_leave new.store.disk image
+      → Opens old.store.layout (length image) (λ records. records ≡ event_records old.store.layout (content old.store.disk) ++ spelling event ∷ []) image
+  rewritten-opens event old mid new same events left counts long image may =
+      let there : IsLackingBy content size event mid image = at_the_end moment may_leave left_since mid.store.disk new.store.disk (IsLackingBy content size event mid) left counts image may in
+      let its : Opens old.store.layout (size mid.store.disk) (λ records. records ≡ event_records old.store.layout (content mid.store.disk)) image =
+      subst (λ l. Opens l (size mid.store.disk) (λ records. records ≡ event_records l (content mid.store.disk)) image) same there.0 in
+      record { head = ap (header_of (take 512 image)) (long image may) ∙ its.head; list = its.list ∙ events; closed = its.closed }

@@ -1,5 +1,5 @@
 -- What a turn that works has done, with an event or without one.
-use Rattle.std.proofs.Common.{◌≡◌, ◌++◌, ℕ, Bool, List, true, refl, ap, sym, ◌∙◌, subst, Option, Some, None}
+use Rattle.std.proofs.Common.{◌≡◌, ◌++◌, ℕ, Bool, List, length, true, refl, ap, sym, ◌∙◌, subst, Option, Some, None}
 use Rattle.ckr_console.specs.declared.question.Answer.{Answer}
 use Rattle.ckr_events.specs.declared.event.Event.{Event}
 use Rattle.ckr_desk_refines.specs.Memory.Plans.{IsSpelledPlan}
@@ -24,7 +24,7 @@ use Rattle.ckr_desk.specs.declared.error.DeskError.TheVariants.{NoMemory, DiskFa
 use Rattle.ckr_desk.specs.Soundness.{HasKept, IsTrusted, KeepsWithin, state_of}
 use Rattle.ckr_desk.specs.State.{RoomyDesk, DeskView}
 use Rattle.ckr_desk.specs.Turn.{behind_turn, event_of_turn, reply_of, turn_fits}
-use Rattle.ckr_desk.specs.Units.{HasDoneUnit, HasGoneBehind, IsLeftBehind, IsLeftByUnit, NotBehind, TakesBy}
+use Rattle.ckr_desk.specs.Units.{HasDoneUnit, HasGoneBehind, IsLeftBehind, IsLeftByUnit, NotBehind, OpensBehind, TakesBy}
 
 module _ {D : Type 0} (told : Type 0) (content : D → List ℕ) (may_leave : D → List ℕ → Type 0) (moment : D → ℕ) (left_since : D → ℕ → List ℕ → Type 0) (size : D → ℕ)
     (old : DeskView D) (trusted : IsTrusted told content may_leave old) (turn : MountedTurn) (run : ℕ)
@@ -103,11 +103,13 @@ module _ {D : Type 0} (told : Type 0) (content : D → List ℕ) (may_leave : D 
             (λ reply event is. unit-state told content may_leave moment left_since size old trusted turn run planned answer mid plan done events shape stems event (ap event_in is) new same reply (told-so reply event is))
             (λ none. rest-state told content may_leave moment left_since size old trusted turn run planned answer mid plan done events shape stems new gone none)
 
-        pub done-trusted : IsTrusted told content may_leave new
-        done-trusted =
+        pub done-trusted : OpensBehind content may_leave (event_in plan) mid new → ((image : List ℕ) → may_leave new.store.disk image → length image ≡ size old.store.disk) → IsTrusted told content may_leave new
+        done-trusted opens long =
             by-plan (IsTrusted told content may_leave new)
-            (λ reply event is. unit-trusted told content may_leave moment left_since size old trusted turn run planned answer mid plan done events shape stems event (ap event_in is) new same reply (told-so reply event is))
-            (λ none. rest-trusted told content may_leave moment left_since size old trusted turn run planned answer mid plan done events shape stems new gone none)
+            (λ reply event is.
+            unit-trusted told content may_leave moment left_since size old trusted turn run planned answer mid plan done events shape stems event (ap event_in is) new same reply (told-so reply event is)
+            (subst (λ (e : Option Event). OpensBehind content may_leave e mid new) (ap event_in is) opens))
+            (λ none. rest-trusted told content may_leave moment left_since size old trusted turn run planned answer mid plan done events shape stems new gone none long)
 
     -- ---- what a stop leaves
 

@@ -1,5 +1,5 @@
 -- A turn that works, with the operator's answer if it asks him: the unit of its running step, the desk behind it, and what a stop leaves.
-use Rattle.std.proofs.Common.{◌≡◌, ◌≤◌, ◌+◌, ◌-◌, ◌++◌, ◌&&◌, ℕ, List, [], ◌∷◌, true, false, length, find, refl, ap, sym, ◌∙◌, subst, ◌⊎◌, ⊎_elim, inl, inr, arith, Option, Some, None, Ok}
+use Rattle.std.proofs.Common.{◌≡◌, ◌≤◌, ◌+◌, ◌-◌, ◌++◌, ◌&&◌, ℕ, List, [], ◌∷◌, true, false, length, take, find, refl, ap, sym, ◌∙◌, subst, ◌⊎◌, ⊎_elim, inl, inr, arith, Option, Some, None, Ok}
 use Rattle.std.proofs.lemmas.Bool.{and_from, le-leb}
 use Rattle.ckr_base.proofs.Options.{some-not-none}
 use Rattle.ckr_book.specs.Book.{room_of}
@@ -31,7 +31,7 @@ use Rattle.ckr_desk_refines.specs.Standing.{StandsForDesk, desk_seen}
 use Rattle.ckr_steps.specs.declared.step_run.Worked.{Worked as Outcome}
 use Rattle.ckr_steps.specs.declared.step_run.Worked.TheVariants.{Abend, Rewrite, Went}
 use Rattle.ckr_steps.specs.Writes.{Keeps}
-use Rattle.ckr_desk_store.specs.OpenImages.{event_records}
+use Rattle.ckr_desk_store.specs.OpenImages.{Opens, event_records}
 use Rattle.ckr_desk_store.specs.State.{StoreView}
 use Rattle.ckr_desk_turn.proofs.Codes.{by-verdict}
 use Rattle.ckr_desk_turn.specs.Codes.{initiator_of, running_reached}
@@ -45,6 +45,7 @@ use Rattle.ckr_desk_turn.specs.Turns.{carried_out, MountedTurn, plan_for, turn_o
 use Rattle.ckr_desk_turn.specs.Desk.{DeskModel, TurnDone, work_of, jobs_of as jobs_of_desk}
 use Rattle.ckr_desk_turn.specs.Spelling.{IsSpelled}
 use Rattle.ckr_volumes.specs.declared.layout.Layout.{Layout}
+use Rattle.ckr_volumes.specs.Header.{header_of}
 use Rattle.ckr_desk_refines.proofs.Units.Desk.{run-moved, went-stands}
 use Rattle.ckr_desk_refines.proofs.Units.StepLists.{IsPair, pair-of}
 use Rattle.ckr_desk_refines.proofs.Units.AnyReply.{told-unit}
@@ -63,9 +64,9 @@ use Rattle.ckr_desk.proofs.Trust.Events.{IsBehind, IsComing, desk-behind, truste
 use Rattle.ckr_desk.proofs.Trust.Conditions.{goes-out, shows-in, worked-out}
 use Rattle.ckr_desk.specs.Requests.{has_room, room_behind}
 use Rattle.ckr_desk.specs.Calls.{HasGoneOn, may_keep}
-use Rattle.ckr_desk.specs.Rewrite.{IsWrittenBy, LacksAtMost}
+use Rattle.ckr_desk.specs.Rewrite.{IsWrittenBy, LacksAtMost, OpensSame}
 use Rattle.ckr_desk.specs.Turn.{asks, behind_turn, event_of_turn, reply_of}
-use Rattle.ckr_desk.specs.Units.{HasDoneUnit, HasGoneBehind, HasWrittenBehind, IsLeftByUnit, StemsFromUnit}
+use Rattle.ckr_desk.specs.Units.{HasDoneUnit, HasGoneBehind, HasWrittenBehind, IsLeftByUnit, OpensBehind, StemsFromUnit}
 use Rattle.ckr_desk.specs.Opening.{behind_records}
 use Rattle.ckr_desk.specs.Soundness.{HasKept, IsTrusted, events_in, last_on, office_on, state_of}
 use Rattle.ckr_desk.specs.State.{RoomyDesk, DeskView, need_of}
@@ -308,8 +309,13 @@ module _ {D : Type 0} (told : Type 0) (content : D → List ℕ) (may_leave : D 
       stems-then : (left : List ℕ) → may_leave new.store.disk left → IsLeftByUnit content may_leave size run old left
       stems-then left may = stems left (subst (λ (store : StoreView D). may_leave store.disk left) rested.2 may)
 
-      pub rest-trusted : IsTrusted told content may_leave new
-      rest-trusted = record {
+      opens-rest : (left : List ℕ) → length left ≡ size old.store.disk → OpensSame content size old left → Opens new.store.layout (length left) (λ records. records ≡ event_records new.store.layout (content new.store.disk)) left
+      opens-rest left long its =
+          subst (λ (l : Layout). Opens l (length left) (λ records. records ≡ event_records l (content new.store.disk)) left) (sym layout-then)
+          (record { head = ap (header_of (take 512 left)) long ∙ its.head; list = its.list ∙ sym events ∙ sym (ap (event_records layout) reads-then); closed = its.closed })
+
+      pub rest-trusted : ((left : List ℕ) → may_leave new.store.disk left → length left ≡ size old.store.disk) → IsTrusted told content may_leave new
+      rest-trusted long = record {
         tells = trusted.tells;
         opens = subst (λ (l : Layout). behind_records l no_tables 0 (event_records l (content new.store.disk)) ≡ Ok new.jobs.tables.desk) (sym layout-then)
             (ap (λ bytes. behind_records layout no_tables 0 (event_records layout bytes)) reads-then
@@ -323,6 +329,7 @@ module _ {D : Type 0} (told : Type 0) (content : D → List ℕ) (may_leave : D 
         last = subst (λ (l : Layout). HasLast (office_on l (content new.store.disk)) (last_on l (content new.store.disk))) (sym layout-then)
             (subst (λ bytes. HasLast (office_on layout bytes) (last_on layout bytes)) (sym reads-then)
             (subst (λ (o : Office). HasLast o (last_on layout after)) (sym office-after) (subst (HasLast office) (sym last-after) trusted.last)));
+        opens_left = λ left may. opens-rest left (long left may) (stems-then left may).0;
         committed = λ left may.
             subst (λ (l : Layout). HasCommittedAgain l (office_on l (content new.store.disk)) (last_on l (content new.store.disk)) left) (sym layout-then)
             (subst (λ (o : Office). HasCommittedAgain layout o (last_on layout (content new.store.disk)) left) (sym office-then)
@@ -466,8 +473,15 @@ module _ {D : Type 0} (told : Type 0) (content : D → List ℕ) (may_leave : D 
           entries_left = by-image (HasEntries layout then.office) (entries-same gone.0.might written.told_on same-told) (λ left lacks. entries-lacking gone.0.might written.told_on left same-told lacks);
         }
 
-        pub unit-trusted : IsTrusted told content may_leave new
-        unit-trusted = trusted-behind told content may_leave event old new then (coming gone.0.might) behind-so trusted
+        opens-behind : OpensBehind content may_leave (Some event) mid new → (left : List ℕ) → may_leave new.store.disk left
+            → Opens layout (length left) (λ records. records ≡ event_records layout image ++ spelling event ∷ []) left
+        opens-behind opens left may =
+            let its : Opens layout (length left) (λ records. records ≡ event_records layout after ++ spelling event ∷ []) left =
+            subst (λ (l : Layout). Opens l (length left) (λ records. records ≡ event_records l after ++ spelling event ∷ []) left) layout-same (opens left may) in
+            record { head = its.head; list = its.list ∙ ap (λ records. records ++ spelling event ∷ []) events; closed = its.closed }
+
+        pub unit-trusted : OpensBehind content may_leave (Some event) mid new → IsTrusted told content may_leave new
+        unit-trusted opens = trusted-behind told content may_leave event old new then (coming gone.0.might) behind-so (opens-behind opens) trusted
 
         pub unit-state : state_of content new ≡ behind_turn (state_of content old) turn answer
         unfolding behind_turn

@@ -1,14 +1,15 @@
 -- What a stop leaves, and which events came, one call after another.
-use Rattle.std.proofs.Common.{◌≡◌, ◌≤◌, ◌++◌, [], ◌∷◌, ℕ, List, length, Result, Ok, Err, OnOk, IfErr, ⊎_elim, inl, inr, refl, ap, sym, ◌∙◌, subst, append_assoc, append-nil}
+use Rattle.std.proofs.Common.{◌≡◌, ◌≤◌, ◌++◌, [], ◌∷◌, ℕ, List, length, Result, Ok, Err, OnOk, IfErr, ⊎_elim, inl, inr, refl, ap, sym, ◌∙◌, subst, append_assoc, append-nil, arith}
 use Rattle.std.proofs.lemmas.List.{append_cancel_left}
 use Rattle.ckr_outside.specs.Moments.{and_then}
+use Rattle.ckr_desk.proofs.Images.Soundness.{kept-still}
 use Rattle.ckr_desk.specs.declared.error.DeskError.{DeskError}
 use Rattle.ckr_desk.specs.declared.error.DeskError.TheVariants.{NoMemory, DiskFault, BookFull}
 use Rattle.ckr_desk.specs.Model.Layout.{Layout}
 use Rattle.ckr_desk.specs.Model.OpenImages.{event_records}
 use Rattle.ckr_desk.specs.NoChange.{StaysBy}
 use Rattle.ckr_desk.specs.Requests.{came_by}
-use Rattle.ckr_desk.specs.Soundness.{HasKept, KeepsWithin}
+use Rattle.ckr_desk.specs.Soundness.{HasKept, IsTrusted, KeepsWithin}
 use Rattle.ckr_desk.specs.State.{DeskView, disk_of, layout_of}
 use Rattle.ckr_session.specs.Stops.{AllOrKept, Goes, Has, HasBehind, HasSuch, KeepsTo, Stopped}
 use Rattle.ckr_session.proofs.Service.Events.{front_of_few}
@@ -66,18 +67,23 @@ module _ {D : Type 0} (content : D → List ℕ) (moment : D → ℕ) (left_sinc
   pub goes_nowhere : (desk : DeskView D) → KeepsWithin content moment left_since size desk desk [] → Goes content moment left_since size desk desk
   goes_nowhere desk kept = goes_none desk desk refl refl kept (sym (append-nil (events_of desk)))
 
-  -- any call of the desk, behind which a stop leaves all events that the disk reads then
-  pub goes_done : (old new : DeskView D) (came : List (List ℕ)) → layout_of new ≡ layout_of old → size (disk_of new) ≡ size (disk_of old)
-      → KeepsWithin content moment left_since size old new came → Has content moment left_since size old (disk_of new) came → KeepsWithin content moment left_since size new new []
-      → Goes content moment left_since size old new
-  goes_done old new came same_layout same_size kept has still = record {
+  -- at a desk that is trusted
+  pub goes_still : (told : Type 0) (may_leave : D → List ℕ → Type 0) (desk : DeskView D) → IsTrusted told content may_leave desk
+      → ((image : List ℕ) → left_since (disk_of desk) (moment (disk_of desk)) image → may_leave (disk_of desk) image)
+      → ((image : List ℕ) → left_since (disk_of desk) (moment (disk_of desk)) image → length image ≡ size (disk_of desk)) → Goes content moment left_since size desk desk
+  goes_still told may_leave desk trusted only long = goes_nowhere desk (kept-still told content may_leave size desk trusted moment left_since only long)
+
+  -- any call of the desk, behind which it is trusted
+  pub goes_done : (told : Type 0) (may_leave : D → List ℕ → Type 0) (old new : DeskView D) (came : List (List ℕ)) → layout_of new ≡ layout_of old → size (disk_of new) ≡ size (disk_of old)
+      → KeepsWithin content moment left_since size old new came → Has content moment left_since size old (disk_of new) came → IsTrusted told content may_leave new
+      → ((image : List ℕ) → left_since (disk_of new) (moment (disk_of new)) image → may_leave (disk_of new) image) → Goes content moment left_since size old new
+  goes_done told may_leave old new came same_layout same_size kept has trusted only = record {
     came = came;
     each = kept;
     has = has;
     left = λ image now.
-        subst (λ (l : Layout). event_records l image ≡ event_records l (content (disk_of new)) ++ []) same_layout
-        (none_behind (layout_of new) (size (disk_of new)) (events_of new) image (still.each image (now (moment (disk_of new)) still.later)))
-        ∙ append-nil (event_records (layout_of old) (content (disk_of new))) ∙ has;
+        subst (λ (l : Layout). event_records l image ≡ event_records l (content (disk_of new))) same_layout (trusted.opens_left image (only image (now (moment (disk_of new)) (omega arith)))).list
+        ∙ has;
     same_layout = same_layout;
     same_size = same_size;
   }

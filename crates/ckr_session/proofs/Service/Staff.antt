@@ -62,6 +62,7 @@ module _ {D : Type 0} (desk : DeskView D) (room : MachineRoomView) where
     events = trusted.events;
     stands = trusted.stands;
     last = trusted.last;
+    opens_left = trusted.opens_left;
     committed = trusted.committed;
     entries = trusted.entries;
     entries_left = trusted.entries_left;

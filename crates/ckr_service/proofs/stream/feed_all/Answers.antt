@@ -5,7 +5,7 @@ use Rattle.ckr_session.specs.Model.Session.{SessionModel as Standing}
 use Rattle.ckr_session.specs.Service.{seen}
 use Rattle.ckr_service.specs.Flows.{Carries}
 use Rattle.ckr_service.proofs.Streams.Feeds.{begun, fed, fed_all, stopped_within, stopped_by_source, stopped_by_limit, front_take, front_and_last}
-use Rattle.ckr_session.proofs.Calls.Stops.{goes_nowhere, goes_then}
+use Rattle.ckr_session.proofs.Calls.Stops.{goes_still, goes_then}
 use Rattle.ckr_service.proofs.stream.feed_all.Goals as goal
 use Rattle.ckr_session.specs.Model.State.{disk_of}
 
@@ -19,10 +19,12 @@ loop-taken-init g c =
     let first : c.args.flow.now.session.number + 1 ≡ 1 = ap (λ (s : Standing). s.number) b.standing in
     let nothing : length c.args.flow.now.partial.items ≡ 0 = ap length b.partial in
     let d = g.D.Disk in
+    let laws = g.met.D.Disk g.world.𝓛 g.world.𝓜 g.world.𝓡 ((λ s x. x), (λ x. x), (λ x. x), λ x. x) in
+    let desk = c.args.flow.now.session.clerk.desk in
     record {
       feeding = begun g.D.Disk.content _ c.args.flow.now _ _ b;
       trusted = λ holds. holds;
-      goes = λ holds. goes_nowhere d.content d.moment d.left_since d.size c.args.flow.now.session.clerk.desk (c.layout-layout.ensures.kept c.requires.is_open holds);
+      goes = λ holds. goes_still d.content d.moment d.left_since d.size d.told d.may_leave desk holds (laws.only_now (disk_of desk)) (laws.sized (disk_of desk) (d.moment (disk_of desk)));
       is_open = c.requires.is_open;
       few = omega arith;
       lines = omega (arith, first, nothing);

@@ -3,8 +3,9 @@ use Rattle.std.proofs.lemmas.Bool.{false≢true}
 use Rattle.std.proofs.lemmas.Grind.{common_steps}
 use Rattle.ckr_cards.specs.Session.{Handed, handed_deck}
 use Rattle.ckr_cards.specs.Session.Handed.{Deck}
+use Rattle.ckr_desk.specs.State.{disk_of}
 use Rattle.ckr_session.specs.Service.{Serves, View}
-use Rattle.ckr_session.proofs.Calls.Stops.{goes_nowhere}
+use Rattle.ckr_session.proofs.Calls.Stops.{goes_still}
 use Rattle.ckr_session.proofs.session.end_deck.Goals as goal
 
 -- an open deck is handed over
@@ -18,7 +19,9 @@ deck_served {t} {u} a b cards some s = subst (λ (requests : List Handed). Serve
 pub returns-then-is_empty-clause-goes : goal.returns-then-is_empty-clause-goes
 returns-then-is_empty-clause-goes g c holds =
     let d = g.D.Disk in
-    goes_nowhere d.content d.moment d.left_since d.size c.args.clerk.now.desk (c.layout-layout.ensures.kept c.requires.is_open holds)
+    let laws = g.met.D.Disk g.world.𝓛 g.world.𝓜 g.world.𝓡 ((λ s x. x), (λ x. x), (λ x. x), λ x. x) in
+    let desk = c.args.clerk.now.desk in
+    goes_still d.content d.moment d.left_since d.size d.told d.may_leave desk holds (laws.only_now (disk_of desk)) (laws.sized (disk_of desk) (d.moment (disk_of desk)))
 
 pub returns-clause-serves : goal.returns-clause-serves
 returns-clause-serves g c holds =

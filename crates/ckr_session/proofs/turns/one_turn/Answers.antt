@@ -13,9 +13,10 @@ use Rattle.ckr_session.proofs.turns.one_turn.Goals as goal
 pub returns-in-Ok-clause-goes : goal.returns-in-Ok-clause-goes
 returns-in-Ok-clause-goes g c holds =
     let d = g.D.Disk in
+    let laws = g.met.D.Disk g.world.𝓛 g.world.𝓜 g.world.𝓡 ((λ s x. x), (λ x. x), (λ x. x), λ x. x) in
     let e = c.in-Ok.ensures in
-    goes_done d.content d.moment d.left_since d.size c.args.desk.now c.turn.new.self _ e.keeps.same_layout e.keeps.same_size (e.kept c.requires.is_open holds) (e.comes holds).events
-    (c.layout-layout.ensures.kept e.keeps.is_open (e.comes holds).trusted)
+    goes_done d.content d.moment d.left_since d.size d.told d.may_leave c.args.desk.now c.turn.new.self _ e.keeps.same_layout e.keeps.same_size (e.kept c.requires.is_open holds) (e.comes holds).events
+    (e.comes holds).trusted (laws.only_now (disk_of c.turn.new.self))
 
 pub returns-in-Err-NoMemory-clause-halt : goal.returns-in-Err-NoMemory-clause-halt
 returns-in-Err-NoMemory-clause-halt g c holds =

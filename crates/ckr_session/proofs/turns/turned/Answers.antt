@@ -15,7 +15,7 @@ use Rattle.ckr_session.specs.Texts.{run_text, with_waiting}
 use Rattle.ckr_session.specs.Turns.{Adds, TurnHalt, Turns, TurnsHaltTelling}
 use Rattle.ckr_session.proofs.Service.Tallies.{counted_last, counted_more}
 use Rattle.ckr_session.proofs.Service.Turns.{adds_behind_text, no_more, turns_begun, turn_counted, turn_made, turn_rests, turns_counted, turns_front, turns_made, turns_halted}
-use Rattle.ckr_session.proofs.Calls.Stops.{came_there, goes_nowhere, goes_then, stopped_behind, stopped_here}
+use Rattle.ckr_session.proofs.Calls.Stops.{came_there, goes_still, goes_then, stopped_behind, stopped_here}
 use Rattle.ckr_session.proofs.Tellings.{ends_told, front_told, told_here, told_more}
 use Rattle.ckr_session.proofs.turns.turned.Goals as goal
 
@@ -32,6 +32,8 @@ none_waits layout initiator waiting text none = sym (ap (λ (w : Option (Reply �
 pub loop-init : goal.loop-init
 loop-init g c =
     let d = g.D.Disk in
+    let laws = g.met.D.Disk g.world.𝓛 g.world.𝓜 g.world.𝓡 ((λ s x. x), (λ x. x), (λ x. x), λ x. x) in
+    let desk = c.args.desk.now in
     let s = attended_of d.content c.args.desk.now in
     let lines = c.args.lines.now in
     let from = telling lines (g.K.Sink.written c.args.sink.now) (g.K.Sink.faults c.args.sink.now) in
@@ -48,7 +50,7 @@ loop-init g c =
       is_open = c.requires.is_open;
       layout = refl;
       trusted = λ holds. holds;
-      goes = λ holds. goes_nowhere d.content d.moment d.left_since d.size c.args.desk.now (c.layout-layout.ensures.kept c.requires.is_open holds);
+      goes = λ holds. goes_still d.content d.moment d.left_since d.size d.told d.may_leave desk holds (laws.only_now (disk_of desk)) (laws.sized (disk_of desk) (d.moment (disk_of desk)));
       later = omega arith;
       size = refl;
       sink_later = omega arith;

@@ -11,7 +11,7 @@ use Rattle.ckr_desk_turn.specs.Turns.{plan_for}
 use Rattle.ckr_desk_store.specs.State.{IsSound, StoreView}
 use Rattle.ckr_book.specs.Book.{room_of}
 use Rattle.ckr_desk.proofs.Calls.FullBooks.{of-disk-numbers, unsettled-numbers}
-use Rattle.ckr_desk.proofs.Calls.Requests.{if-err, if-err-both, on-ok}
+use Rattle.ckr_desk.proofs.Calls.Requests.{if-err, if-err-both, on-ok, on-ok-both}
 use Rattle.ckr_desk.proofs.Turns.Checkpoints.{turned-past}
 use Rattle.ckr_desk.proofs.Turns.Preparation.{as-before, came-of-disk, planned-before, same-unchanged, turned-before, turned-not}
 use Rattle.ckr_desk.proofs.Turns.Answers.{given-stands, pass-quiet, stands-as, take-quiet, unasked, unasked-stands}
@@ -155,7 +155,8 @@ returns-in_ok-plan-in_default g c =
             fits = on-ok (go-fits d.told d.content d.may_leave d.moment d.left_since d.size d.faults mid q.trusted turn q.its answer its new comes shape) c.go_on.result c.go_on.ensures.gone;
             after = on-ok (go-after d.told d.content d.may_leave d.moment d.left_since d.size d.faults mid q.trusted turn q.its answer its new comes stands shape c.go_on.ensures.layout) c.go_on.result c.go_on.ensures.gone;
             events = on-ok (go-told d.told d.content d.may_leave d.moment d.left_since d.size d.faults mid q.trusted turn q.its answer its new comes) c.go_on.result c.go_on.ensures.gone;
-            trusted = on-ok (go-trusted d.told d.content d.may_leave d.moment d.left_since d.size d.faults mid q.trusted turn q.its answer its new comes stands shape c.go_on.ensures.layout) c.go_on.result c.go_on.ensures.gone;
+            trusted = on-ok-both (go-trusted d.told d.content d.may_leave d.moment d.left_since d.size d.faults mid q.trusted turn q.its answer its new comes stands shape c.go_on.ensures.layout) c.go_on.result c.go_on.ensures.gone
+                (c.go_on.ensures.opens p.trusted.tells);
             cause = if-err (λ error not. go-cause d.told d.content d.may_leave d.moment d.left_since d.size d.faults mid q.trusted turn q.its answer its new error not) c.go_on.result c.go_on.ensures.cause;
             takes = if-err (λ error not. behind-takes d.faults mid new its (reply_of (state_of d.content mid) turn answer) (event_of_turn (state_of d.content mid) turn answer) (asks (state_of d.content mid) turn answer) error not) c.go_on.result c.go_on.ensures.cause;
             kept = came-of-disk d.content d.moment d.left_since d.size mid new _ c.go_on.result of_disk

@@ -1,7 +1,7 @@
-use Rattle.std.proofs.Common.{subst}
+use Rattle.std.proofs.Common.{◌∙◌, arith, subst}
 use Rattle.ckr_desk_refines.specs.Memory.OwnSteps.{PlanCommits, PlanFollows, PlanLeaves}
 use Rattle.ckr_desk.proofs.Layouts.{kept-waiting}
-use Rattle.ckr_desk.proofs.Turns.Stops.{rewritten-left, told-left}
+use Rattle.ckr_desk.proofs.Turns.Stops.{rewritten-left, rewritten-opens, told-left}
 use Rattle.ckr_desk.proofs.desk.Desk.go_on.Goals as goal
 
 pub enter-requires-clause-follows : goal.enter-requires-clause-follows
@@ -38,6 +38,17 @@ returns-in_ok-rewrite-in-Tell-clause-left g c =
     rewritten-left d.told d.content d.may_leave d.moment d.left_since d.size c.in-Tell.event c.args.self.now c.enter.new.self c.rewrite.new.self.store.disk
     c.in_ok-enter-in-Tell.ensures.ok c.enter.ensures.size (c.in_ok-enter-in-Tell.ensures.told told) (c.in_ok-enter-in-Tell.ensures.records told) c.enter.ensures.left
     (c.rewrite.ensures.left c.in_ok-enter-in-Tell.ensures.settled))
+
+pub returns-in_ok-rewrite-in-Tell-clause-opens : goal.returns-in_ok-rewrite-in-Tell-clause-opens
+returns-in_ok-rewrite-in-Tell-clause-opens g c =
+    let d = g.D.Disk in
+    let laws = g.met.D.Disk g.world.𝓛 g.world.𝓜 g.world.𝓡 ((λ s x. x), (λ x. x), (λ x. x), λ x. x) in
+    let disk = c.rewrite.new.self.store.disk in
+    rw c.in-Tell.is
+    (λ told.
+    rewritten-opens d.told d.content d.may_leave d.moment d.left_since d.size c.in-Tell.event c.args.self.now c.enter.new.self c.rewrite.new.self c.enter.ensures.layout (c.in_ok-enter-in-Tell.ensures.told told)
+    (c.rewrite.ensures.left c.in_ok-enter-in-Tell.ensures.settled) (laws.counts_now disk)
+    (λ image may. laws.sized disk (d.moment disk) image (laws.counts_now disk (d.moment disk) image (omega arith) may) ∙ c.rewrite.ensures.size))
 
 pub invariant_of-self : goal.invariant_of-self
 invariant_of-self g c =

@@ -1,9 +1,10 @@
-use Rattle.std.proofs.Common.{[], ap, inl, inr, subst, sym}
+use Rattle.std.proofs.Common.{[], ap, arith, inl, inr, subst, sym}
 use Rattle.ckr_base.proofs.Results.{err-holds}
 use Rattle.ckr_outside.specs.Faults.{Rose}
 use Rattle.ckr_desk_store.specs.OpenImages.{event_records}
 use Rattle.ckr_desk_store.specs.State.{StoreView}
 use Rattle.ckr_volumes.specs.declared.layout.Layout.{Layout}
+use Rattle.ckr_desk.proofs.Calls.Stops.{opens-long}
 use Rattle.ckr_desk.proofs.Openings.Trust.{IsOpened, IsRead, IsReadAs, WritesAgain, desk-cause, kept-opening, opened-by, opens-again, opens-desk, trusted-opened}
 use Rattle.ckr_desk.specs.FirstSync.{FromSync, IsLeft}
 use Rattle.ckr_desk.specs.Soundness.{AllSound, HasKept}
@@ -75,8 +76,10 @@ returns-in-Ok-clause-trusted g c all =
     let is : IsOpened d.told d.content d.may_leave d.size c.args.disk c.write_again.new.self there.last =
     opened-by d.told d.content d.may_leave d.size c.args.disk there.desk c.write_again.new.self there.last read wrote c.in-Ok.ensures.sound
     in
-    trusted-opened d.told d.content d.may_leave d.size c.args.disk c.write_again.new.self there.last all.tells
-    (all.sound (d.content c.args.disk) (laws.reads_an_image c.args.disk all.tells)) is (laws.reads_an_image c.write_again.new.self.store.disk all.tells)
+    let new = c.write_again.new.self in
+    let disk = new.store.disk in
+    trusted-opened d.told d.content d.may_leave d.size c.args.disk new there.last all.tells (all.sound (d.content c.args.disk) (laws.reads_an_image c.args.disk all.tells)) is (laws.reads_an_image disk all.tells)
+    (λ image may. opens-long d.told d.content d.may_leave d.moment d.left_since d.size new is.sound is.is_open image may (laws.sized disk (d.moment disk) image (laws.counts_now disk (d.moment disk) image (omega arith) may)))
 
 pub returns-in-Ok-clause-events : goal.returns-in-Ok-clause-events
 returns-in-Ok-clause-events g c all =

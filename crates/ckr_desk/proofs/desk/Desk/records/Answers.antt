@@ -6,7 +6,8 @@ use Rattle.ckr_library.specs.declared.sets.DataSet.{DataSet}
 use Rattle.ckr_outside.specs.Disk.{EachSince}
 use Rattle.ckr_desk_store.specs.State.{IsSound}
 use Rattle.ckr_volumes.specs.Records.{records_on}
-use Rattle.ckr_desk.proofs.Calls.Requests.{none-kept, reading-kept}
+use Rattle.ckr_desk.proofs.Calls.Requests.{reading-kept}
+use Rattle.ckr_desk.proofs.Images.Soundness.{kept-still}
 use Rattle.ckr_desk.proofs.Calls.Records.{events-read, free-stands, not-stopped, of-desk, reading-fails-by, reading-full, reading-may-fail, reading-stays, same-layout, state-read, trusted-read}
 use Rattle.ckr_desk.proofs.Units.Preparation.{err-is}
 use Rattle.ckr_desk.specs.CallOutcomes.{HasComeTo, KeepsDesk}
@@ -56,8 +57,7 @@ returns-in-None-clause-kept g c is_open trusted =
     let d = g.D.Disk in
     let now = c.args.self.now in
     let laws = g.met.D.Disk g.world.𝓛 g.world.𝓜 g.world.𝓡 ((λ s x. x), (λ x. x), (λ x. x), λ x. x) in
-    none-kept d.told d.content d.may_leave d.size now trusted d.moment d.left_since
-    (subst (λ s. IsSound d.content d.may_leave d.size s.store) c.self.view_is c.self.invariant.store) is_open (laws.only_now now.store.disk)
+    kept-still d.told d.content d.may_leave d.size now trusted d.moment d.left_since (laws.only_now now.store.disk) (laws.sized now.store.disk (d.moment now.store.disk))
 
 pub returns-in_ok-read_all-in-Some-free_set-clause-comes : goal.returns-in_ok-read_all-in-Some-free_set-clause-comes
 returns-in_ok-read_all-in-Some-free_set-clause-comes g c trusted =

@@ -1,3 +1,4 @@
+use Rattle.std.proofs.Common.{◌∙◌, arith}
 use Rattle.ckr_desk.proofs.Calls.Requests.{call-cause, call-fits, call-full, call-kept-by, call-may-fail, call-open, call-state, call-stays, call-told, call-trusted, if-err, on-ok, on-ok-all, on-ok-both, release-called}
 use Rattle.ckr_desk.specs.Submit.{release_call}
 use Rattle.ckr_desk.proofs.desk.Desk.release.Goals as goal
@@ -7,13 +8,17 @@ returns-clause-comes g c trusted =
     let d = g.D.Disk in
     let now = c.args.self.now in
     let new = c.end_hold.new.self in
+    let disk = new.store.disk in
+    let laws = g.met.D.Disk g.world.𝓛 g.world.𝓜 g.world.𝓡 ((λ s x. x), (λ x. x), (λ x. x), λ x. x) in
     let call = release_call now.jobs.tables.desk c.args.job in
     let its = release-called d.told d.content d.may_leave d.size now trusted c.args.job c.ranges.job.fits in
     record {
       fits = on-ok (call-fits d.told d.content d.may_leave d.size now trusted new c.end_hold.ensures.layout call its) c.end_hold.result c.end_hold.ensures.done;
       after = on-ok-all (call-state d.told d.content d.may_leave d.size now trusted new c.end_hold.ensures.layout call its) c.end_hold.result c.end_hold.ensures.done (c.end_hold.ensures.told trusted.tells) (c.end_hold.ensures.records trusted.tells) c.end_hold.ensures.settled;
       events = on-ok (call-told _ _ call) c.end_hold.result (c.end_hold.ensures.told trusted.tells);
-      trusted = on-ok-all (call-trusted d.told d.content d.may_leave d.size now trusted new c.end_hold.ensures.layout call its) c.end_hold.result c.end_hold.ensures.done (c.end_hold.ensures.told trusted.tells) (c.end_hold.ensures.records trusted.tells) c.end_hold.ensures.settled;
+      trusted = call-trusted d.told d.content d.may_leave d.size now trusted new c.end_hold.ensures.layout d.moment d.left_since (laws.counts_now disk)
+          (λ image may. laws.sized disk (d.moment disk) image (laws.counts_now disk (d.moment disk) image (omega arith) may) ∙ c.end_hold.ensures.size) call its c.end_hold.ensures.left
+          c.end_hold.result c.end_hold.ensures.is_open c.end_hold.ensures.done (c.end_hold.ensures.told trusted.tells) (c.end_hold.ensures.records trusted.tells) c.end_hold.ensures.settled;
       cause = if-err (call-cause d.told d.content d.may_leave d.size now trusted d.faults new call its) c.end_hold.result c.end_hold.ensures.cause;
     }
 

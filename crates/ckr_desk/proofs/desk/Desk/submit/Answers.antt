@@ -1,3 +1,4 @@
+use Rattle.std.proofs.Common.{◌∙◌, arith}
 use Rattle.ckr_desk.proofs.Calls.Requests.{call-cause, call-fits, call-full, call-kept-by, call-may-fail, call-open, call-state, call-stays, call-told, call-trusted, if-err, on-ok, on-ok-all, on-ok-both, submit-called}
 use Rattle.ckr_desk.proofs.Trust.Counts.{book-limit, trusted-numbered}
 use Rattle.ckr_desk.specs.Submit.{submit_call}
@@ -8,13 +9,17 @@ returns-clause-comes g c trusted =
     let d = g.D.Disk in
     let now = c.args.self.now in
     let new = c.hand_in.new.self in
+    let disk = new.store.disk in
+    let laws = g.met.D.Disk g.world.𝓛 g.world.𝓜 g.world.𝓡 ((λ s x. x), (λ x. x), (λ x. x), λ x. x) in
     let call = submit_call now.jobs.tables.desk c.args.cards.now in
     let its = submit-called d.told d.content d.may_leave d.size now trusted c.args.cards.now c.requires.some in
     record {
       fits = on-ok (call-fits d.told d.content d.may_leave d.size now trusted new c.hand_in.ensures.layout call its) c.hand_in.result c.hand_in.ensures.done;
       after = on-ok-all (call-state d.told d.content d.may_leave d.size now trusted new c.hand_in.ensures.layout call its) c.hand_in.result c.hand_in.ensures.done (c.hand_in.ensures.told trusted.tells) (c.hand_in.ensures.records trusted.tells) c.hand_in.ensures.settled;
       events = on-ok (call-told _ _ call) c.hand_in.result (c.hand_in.ensures.told trusted.tells);
-      trusted = on-ok-all (call-trusted d.told d.content d.may_leave d.size now trusted new c.hand_in.ensures.layout call its) c.hand_in.result c.hand_in.ensures.done (c.hand_in.ensures.told trusted.tells) (c.hand_in.ensures.records trusted.tells) c.hand_in.ensures.settled;
+      trusted = call-trusted d.told d.content d.may_leave d.size now trusted new c.hand_in.ensures.layout d.moment d.left_since (laws.counts_now disk)
+          (λ image may. laws.sized disk (d.moment disk) image (laws.counts_now disk (d.moment disk) image (omega arith) may) ∙ c.hand_in.ensures.size) call its c.hand_in.ensures.left
+          c.hand_in.result c.hand_in.ensures.is_open c.hand_in.ensures.done (c.hand_in.ensures.told trusted.tells) (c.hand_in.ensures.records trusted.tells) c.hand_in.ensures.settled;
       cause = if-err (call-cause d.told d.content d.may_leave d.size now trusted d.faults new call its) c.hand_in.result c.hand_in.ensures.cause;
     }
 

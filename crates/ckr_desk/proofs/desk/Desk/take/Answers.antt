@@ -1,4 +1,4 @@
-use Rattle.std.proofs.Common.{◌≡◌, ◌≤◌, ◌∙◌, ap, sym, subst, None}
+use Rattle.std.proofs.Common.{◌≡◌, ◌≤◌, ◌∙◌, ap, arith, sym, subst, None}
 use Rattle.ckr_book.specs.Book.{room_of}
 use Rattle.ckr_desk_refines.specs.Memory.RewriteCounts.{may_count}
 use Rattle.ckr_desk_refines.specs.Memory.Invariant.{IsAnyAccepted}
@@ -78,9 +78,12 @@ returns-in_err-enter-clause-turned g c turn answer p =
 pub returns-clause-turned : goal.returns-clause-turned
 returns-clause-turned g c turn answer p =
     let d = g.D.Disk in
+    let laws = g.met.D.Disk g.world.𝓛 g.world.𝓜 g.world.𝓡 ((λ s x. x), (λ x. x), (λ x. x), λ x. x) in
     let now = c.args.self.now in
+    let disk = c.enter.new.self.store.disk in
     taken-turned d.told d.content d.may_leave d.moment d.left_since d.size now p.trusted turn p.its c.args.run p.planned c.args.made c.requires.attempt.its answer
     c.write_entry.new.self c.in_ok-write_entry.ensures.written c.write_entry.ensures.size c.write_entry.ensures.left c.enter.new.self c.enter.ensures.left
+    (laws.counts_now disk) (λ image may. laws.sized disk (d.moment disk) image (laws.counts_now disk (d.moment disk) image (omega arith) may) ∙ c.enter.ensures.size)
     c.args.reply
     (done-reply d.told d.content d.may_leave d.moment d.left_since d.size now p.trusted turn p.its c.args.run p.planned c.args.made c.requires.attempt.its answer c.args.reply c.requires.attempt.reply_is)
     c.in_ok-enter.ensures.ok (c.in_ok-enter.ensures.told p.trusted.tells) (c.in_ok-enter.ensures.records p.trusted.tells) c.in_ok-enter.ensures.settled

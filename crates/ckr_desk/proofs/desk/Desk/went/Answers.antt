@@ -1,4 +1,4 @@
-use Rattle.std.proofs.Common.{refl, sym, subst}
+use Rattle.std.proofs.Common.{◌∙◌, arith, refl, sym, subst}
 use Rattle.ckr_outside.specs.Moments.{at_the_end}
 use Rattle.ckr_desk_refines.specs.Memory.Parts.{step_seen}
 use Rattle.ckr_desk_turn.specs.declared.plan.Plan.{Plan}
@@ -85,6 +85,7 @@ returns-clause-turned g c turn answer p =
     (went-looked d.told d.content c.args.run old unit of (step_seen c.in-Some.on.now) (sym c.in-Some.ensures.step) answer c.worked-reply.result (c.worked-reply.ensures.plan old.store.layout) c.worked-reply.ensures.told)
     in
     let done = c.in_ok-done_unit.ensures.done answer plan looked in
+    let disk = mid.store.disk in
     let events = c.in_ok-done_unit.ensures.events p.trusted.tells in
     let shape = c.worked-reply.ensures.told in
     let laws = g.met.D.Disk g.world.𝓛 g.world.𝓜 g.world.𝓡 ((λ s x. x), (λ x. x), (λ x. x), λ x. x) in
@@ -94,7 +95,8 @@ returns-clause-turned g c turn answer p =
       fits = done-fits d.told d.content d.may_leave d.moment d.left_since d.size now p.trusted turn c.args.run p.planned answer mid plan done events shape stems mid refl;
       after = done-after d.told d.content d.may_leave d.moment d.left_since d.size now p.trusted turn c.args.run p.planned answer mid plan done events shape stems mid refl c.done_unit.ensures.layout;
       events = done-told d.told d.content d.may_leave d.moment d.left_since d.size now p.trusted turn c.args.run p.planned answer mid plan done events shape stems mid refl;
-      trusted = done-trusted d.told d.content d.may_leave d.moment d.left_since d.size now p.trusted turn c.args.run p.planned answer mid plan done events shape stems mid refl c.done_unit.ensures.layout;
+      trusted = done-trusted d.told d.content d.may_leave d.moment d.left_since d.size now p.trusted turn c.args.run p.planned answer mid plan done events shape stems mid refl c.done_unit.ensures.layout tt
+          (λ image may. laws.sized disk (d.moment disk) image (laws.counts_now disk (d.moment disk) image (omega arith) may) ∙ c.done_unit.ensures.size);
       cause = tt;
       takes = tt;
       kept = unit-keeps d.told d.content d.may_leave d.moment d.left_since d.size now p.trusted turn c.args.run p.planned answer (spelled (event_of_turn (state_of d.content now) turn answer)) mid c.done_unit.ensures.left;

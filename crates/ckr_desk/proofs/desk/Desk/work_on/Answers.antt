@@ -1,4 +1,4 @@
-use Rattle.std.proofs.Common.{◌≡◌, ◌∙◌, sym, subst, ap, false, OnOk, Result, Err}
+use Rattle.std.proofs.Common.{◌≡◌, ◌∙◌, arith, sym, subst, ap, false, OnOk, Result, Err}
 use Rattle.ckr_book.specs.Book.{room_of}
 use Rattle.ckr_desk_refines.specs.Memory.OwnSteps.{PlanFollows}
 use Rattle.ckr_desk_refines.proofs.Memory.OwnUnits.{told-leaves}
@@ -90,13 +90,16 @@ returns-in-Ok-clause-turned g c turn answer p ahead =
     let shape = ahead.looked.spelled in
     let laws = g.met.D.Disk g.world.𝓛 g.world.𝓜 g.world.𝓡 ((λ s x. x), (λ x. x), (λ x. x), λ x. x) in
     let stems = at_the_end d.moment d.may_leave d.left_since now.store.disk mid.store.disk (IsLeftByUnit d.content d.may_leave d.size c.args.run now) c.done_unit.ensures.left (laws.counts_now mid.store.disk) in
+    let disk = new.store.disk in
     let layout = c.go_on.ensures.layout ∙ c.done_unit.ensures.layout in
     record {
       reply = c.in-Ok.ensures.reply ∙ done-reply d.told d.content d.may_leave d.moment d.left_since d.size now p.trusted turn c.args.run p.planned answer mid plan done events shape stems;
       fits = done-fits d.told d.content d.may_leave d.moment d.left_since d.size now p.trusted turn c.args.run p.planned answer mid plan done events shape stems new c.in-Ok.ensures.gone;
       after = done-after d.told d.content d.may_leave d.moment d.left_since d.size now p.trusted turn c.args.run p.planned answer mid plan done events shape stems new c.in-Ok.ensures.gone layout;
       events = done-told d.told d.content d.may_leave d.moment d.left_since d.size now p.trusted turn c.args.run p.planned answer mid plan done events shape stems new c.in-Ok.ensures.gone;
-      trusted = done-trusted d.told d.content d.may_leave d.moment d.left_since d.size now p.trusted turn c.args.run p.planned answer mid plan done events shape stems new c.in-Ok.ensures.gone layout;
+      trusted = done-trusted d.told d.content d.may_leave d.moment d.left_since d.size now p.trusted turn c.args.run p.planned answer mid plan done events shape stems new c.in-Ok.ensures.gone layout
+          (c.in-Ok.ensures.opens p.trusted.tells)
+          (λ image may. laws.sized disk (d.moment disk) image (laws.counts_now disk (d.moment disk) image (omega arith) may) ∙ c.go_on.ensures.size ∙ c.done_unit.ensures.size);
       cause = tt;
       takes = tt;
       kept = done-kept d.told d.content d.may_leave d.moment d.left_since d.size now p.trusted turn c.args.run p.planned answer mid plan done events shape stems c.done_unit.ensures.size new c.done_unit.ensures.left (c.go_on.ensures.left p.trusted.tells);

@@ -14,7 +14,7 @@ use Rattle.ckr_session.specs.Service.{Serves, StopsWithin, seen, staffed_of}
 use Rattle.ckr_session.specs.Sessions.{standing_of}
 use Rattle.ckr_service.specs.Stream.{is_line_end}
 use Rattle.ckr_service.proofs.Streams.Texts.{line_served_on, line_broken_at, nothing_broken}
-use Rattle.ckr_session.proofs.Calls.Stops.{goes_nowhere, stopped_here, stopped_on}
+use Rattle.ckr_session.proofs.Calls.Stops.{goes_still, stopped_here, stopped_on}
 use Rattle.ckr_service.proofs.flow.Flow.byte.Goals as goal
 
 -- a byte that ends no line waits with those before it
@@ -49,10 +49,11 @@ returns-then-byte-eq10-clause-err g c holds =
 pub returns-in_err-push-clause-err : goal.returns-in_err-push-clause-err
 returns-in_err-push-clause-err g c holds =
     let d = g.D.Disk in
+    let laws = g.met.D.Disk g.world.𝓛 g.world.𝓜 g.world.𝓡 ((λ s x. x), (λ x. x), (λ x. x), λ x. x) in
     let f = c.args.self.now in
     let desk = f.session.clerk.desk in
     err-holds c.from_residual.result Stops.Memory _ c.from_residual.ensures.1
-    (stopped_here d.content d.moment d.left_since d.size desk desk (goes_nowhere d.content d.moment d.left_since d.size desk (c.layout-layout.ensures.kept c.requires.is_open holds)) []
+    (stopped_here d.content d.moment d.left_since d.size desk desk (goes_still d.content d.moment d.left_since d.size d.told d.may_leave desk holds (laws.only_now (disk_of desk)) (laws.sized (disk_of desk) (d.moment (disk_of desk)))) []
     (Breaks d.content Stops.Memory (g.K.Sink.faults c.args.sink.now) (g.K.Sink.faults c.args.sink.now) f (c.args.byte ∷ []) (g.K.Sink.written c.args.sink.now) (g.K.Sink.written c.args.sink.now))
     (sym (append-nil _))
     (nothing_broken d.content (g.K.Sink.faults c.args.sink.now) (g.K.Sink.faults c.args.sink.now) f (c.args.byte ∷ []) (g.K.Sink.written c.args.sink.now) (omega arith)))
@@ -60,7 +61,9 @@ returns-in_err-push-clause-err g c holds =
 pub returns-clause-goes : goal.returns-clause-goes
 returns-clause-goes g c holds =
     let d = g.D.Disk in
-    goes_nowhere d.content d.moment d.left_since d.size c.args.self.now.session.clerk.desk (c.layout-layout.ensures.kept c.requires.is_open holds)
+    let laws = g.met.D.Disk g.world.𝓛 g.world.𝓜 g.world.𝓡 ((λ s x. x), (λ x. x), (λ x. x), λ x. x) in
+    let desk = c.args.self.now.session.clerk.desk in
+    goes_still d.content d.moment d.left_since d.size d.told d.may_leave desk holds (laws.only_now (disk_of desk)) (laws.sized (disk_of desk) (d.moment (disk_of desk)))
 
 pub returns-clause-ok : goal.returns-clause-ok
 returns-clause-ok g c holds =

@@ -3,7 +3,7 @@ use Rattle.std.proofs.lemmas.List.{take_more}
 use Rattle.ckr_base.proofs.Results.{err-holds}
 use Rattle.ckr_service.proofs.Streams.Texts.{Carries-Breaks, Carries-trans, nothing_yet}
 use Rattle.ckr_service.specs.Flows.{Breaks, Carries}
-use Rattle.ckr_session.proofs.Calls.Stops.{events_behind, goes_nowhere, goes_then, stopped_behind}
+use Rattle.ckr_session.proofs.Calls.Stops.{events_behind, goes_still, goes_then, stopped_behind}
 use Rattle.ckr_service.proofs.flow.Flow.feed.Goals as goal
 use Rattle.ckr_session.specs.Model.State.{disk_of}
 
@@ -57,14 +57,18 @@ loop-byte-preserved g c =
     }
 
 pub loop-byte-init : goal.loop-byte-init
-loop-byte-init g c = record {
-  trusted = λ holds. holds;
-  goes = λ holds. goes_nowhere g.D.Disk.content g.D.Disk.moment g.D.Disk.left_since g.D.Disk.size c.args.self.now.session.clerk.desk (c.layout-layout.ensures.kept c.requires.is_open holds);
-  carries = λ holds. nothing_yet g.D.Disk.content c.args.self.now (g.K.Sink.written c.args.sink.now);
-  is_open = c.requires.is_open;
-  few = omega arith;
-  cards = c.requires.cards;
-  sink_later = omega arith;
-  disk_later = omega arith;
-  size = refl;
-}
+loop-byte-init g c =
+    let d = g.D.Disk in
+    let laws = g.met.D.Disk g.world.𝓛 g.world.𝓜 g.world.𝓡 ((λ s x. x), (λ x. x), (λ x. x), λ x. x) in
+    let desk = c.args.self.now.session.clerk.desk in
+    record {
+      trusted = λ holds. holds;
+      goes = λ holds. goes_still d.content d.moment d.left_since d.size d.told d.may_leave desk holds (laws.only_now (disk_of desk)) (laws.sized (disk_of desk) (d.moment (disk_of desk)));
+      carries = λ holds. nothing_yet d.content c.args.self.now (g.K.Sink.written c.args.sink.now);
+      is_open = c.requires.is_open;
+      few = omega arith;
+      cards = c.requires.cards;
+      sink_later = omega arith;
+      disk_later = omega arith;
+      size = refl;
+    }

@@ -17,23 +17,26 @@ use Rattle.ckr_session.proofs.clerk.Clerk.change.Goals as goal
 pub returns-in-Ok-true-clause-goes : goal.returns-in-Ok-true-clause-goes
 returns-in-Ok-true-clause-goes g c holds =
     let d = g.D.Disk in
+    let laws = g.met.D.Disk g.world.𝓛 g.world.𝓜 g.world.𝓡 ((λ s x. x), (λ x. x), (λ x. x), λ x. x) in
     let old = c.args.self.now.desk in
     let e = c.in-Ok-true.ensures in
-    on_ok c.tell_changed.result _ (goes_done d.content d.moment d.left_since d.size old c.change_job.new.desk _ e.keeps.same_layout e.keeps.same_size (e.kept c.requires.is_open holds) (e.told holds.tells)
-    (c.layout-layout.ensures.kept e.keeps.is_open (e.comes holds).trusted))
+    on_ok c.tell_changed.result _ (goes_done d.content d.moment d.left_since d.size d.told d.may_leave old c.change_job.new.desk _ e.keeps.same_layout e.keeps.same_size (e.kept c.requires.is_open holds) (e.told holds.tells)
+    (e.comes holds).trusted (laws.only_now (disk_of c.change_job.new.desk)))
 
 pub returns-in-Ok-false-clause-goes : goal.returns-in-Ok-false-clause-goes
 returns-in-Ok-false-clause-goes g c holds =
     let d = g.D.Disk in
+    let laws = g.met.D.Disk g.world.𝓛 g.world.𝓜 g.world.𝓡 ((λ s x. x), (λ x. x), (λ x. x), λ x. x) in
     let old = c.args.self.now.desk in
     let e = c.in-Ok-false.ensures in
     goes_on_to d.content d.moment d.left_since d.size c.refuse_line.result old c.change_job.new.desk _ c.refuse_line.ensures.desk
-    (goes_done d.content d.moment d.left_since d.size old c.change_job.new.desk _ e.keeps.same_layout e.keeps.same_size (e.kept c.requires.is_open holds) (e.told holds.tells)
-    (c.layout-layout-in-Ok-false.ensures.kept e.keeps.is_open (e.comes holds).trusted))
+    (goes_done d.content d.moment d.left_since d.size d.told d.may_leave old c.change_job.new.desk _ e.keeps.same_layout e.keeps.same_size (e.kept c.requires.is_open holds) (e.told holds.tells)
+    (e.comes holds).trusted (laws.only_now (disk_of c.change_job.new.desk)))
 
 pub returns-in-Ok-true-clause-halt : goal.returns-in-Ok-true-clause-halt
 returns-in-Ok-true-clause-halt g c holds =
     let d = g.D.Disk in
+    let laws = g.met.D.Disk g.world.𝓛 g.world.𝓜 g.world.𝓡 ((λ s x. x), (λ x. x), (λ x. x), λ x. x) in
     let old = c.args.self.now.desk in
     let new = c.change_job.new.desk in
     let e = c.in-Ok-true.ensures in
@@ -41,13 +44,14 @@ returns-in-Ok-true-clause-halt g c holds =
     let came = spelled (event_in call) in
     let fits = call_fits (state_of d.content old) call in
     memory_here d.content d.moment d.left_since d.size c.tell_changed.result old new new came (λ halt. ChangeHalt halt fits came c.args.out.now c.tell_changed.new.out) refl
-    (goes_done d.content d.moment d.left_since d.size old new came e.keeps.same_layout e.keeps.same_size (e.kept c.requires.is_open holds) (e.told holds.tells)
-    (c.layout-layout.ensures.kept e.keeps.is_open (e.comes holds).trusted))
+    (goes_done d.content d.moment d.left_since d.size d.told d.may_leave old new came e.keeps.same_layout e.keeps.same_size (e.kept c.requires.is_open holds) (e.told holds.tells)
+    (e.comes holds).trusted (laws.only_now (disk_of new)))
     (came_there d.content old new came e.keeps.same_layout (e.told holds.tells)) (comes_with fits came (call-fits (state_of d.content old) call (e.comes holds).fits)) c.tell_changed.ensures.halt
 
 pub returns-in-Ok-false-clause-halt : goal.returns-in-Ok-false-clause-halt
 returns-in-Ok-false-clause-halt g c holds =
     let d = g.D.Disk in
+    let laws = g.met.D.Disk g.world.𝓛 g.world.𝓜 g.world.𝓡 ((λ s x. x), (λ x. x), (λ x. x), λ x. x) in
     let old = c.args.self.now.desk in
     let new = c.change_job.new.desk in
     let e = c.in-Ok-false.ensures in
@@ -55,8 +59,8 @@ returns-in-Ok-false-clause-halt g c holds =
     let came = spelled (event_in call) in
     let fits = call_fits (state_of d.content old) call in
     memory_here d.content d.moment d.left_since d.size c.refuse_line.result old new _ came (λ halt. ChangeHalt halt fits came c.args.out.now c.refuse_line.new.out) c.refuse_line.ensures.desk
-    (goes_done d.content d.moment d.left_since d.size old new came e.keeps.same_layout e.keeps.same_size (e.kept c.requires.is_open holds) (e.told holds.tells)
-    (c.layout-layout-in-Ok-false.ensures.kept e.keeps.is_open (e.comes holds).trusted))
+    (goes_done d.content d.moment d.left_since d.size d.told d.may_leave old new came e.keeps.same_layout e.keeps.same_size (e.kept c.requires.is_open holds) (e.told holds.tells)
+    (e.comes holds).trusted (laws.only_now (disk_of new)))
     (came_there d.content old new came e.keeps.same_layout (e.told holds.tells)) (comes_with fits came (call-fits (state_of d.content old) call (e.comes holds).fits)) c.refuse_line.ensures.halt
 
 pub returns-in-Err-NoMemory-clause-halt : goal.returns-in-Err-NoMemory-clause-halt

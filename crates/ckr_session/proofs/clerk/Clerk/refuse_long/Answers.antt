@@ -14,7 +14,7 @@ use Rattle.ckr_desk.specs.Submit.{answer_to, call_by, submit_answer, submit_call
 use Rattle.ckr_session.specs.Service.{HaltsSo, seen, staffed_of}
 use Rattle.ckr_session.specs.Staff.{tables_at}
 use Rattle.ckr_session.proofs.Calls.Halts.{memory_here}
-use Rattle.ckr_session.proofs.Calls.Stops.{goes_nowhere, goes_on_to, stopped_here}
+use Rattle.ckr_session.proofs.Calls.Stops.{goes_on_to, goes_still, stopped_here}
 use Rattle.ckr_session.proofs.Service.Answers.{comes_none, deck_refused}
 use Rattle.ckr_session.proofs.Service.Staff.{staffed-behind}
 use Rattle.ckr_session.proofs.clerk.Clerk.refuse_long.Goals as goal
@@ -57,19 +57,22 @@ returns-in-Ok-clause-serves g c =
 pub returns-in-Ok-clause-goes : goal.returns-in-Ok-clause-goes
 returns-in-Ok-clause-goes g c holds =
     let d = g.D.Disk in
+    let laws = g.met.D.Disk g.world.𝓛 g.world.𝓜 g.world.𝓡 ((λ s x. x), (λ x. x), (λ x. x), λ x. x) in
     let old = c.args.self.now.desk in
-    goes_on_to d.content d.moment d.left_since d.size c.refuse_deck.result old old _ c.refuse_deck.ensures.desk (goes_nowhere d.content d.moment d.left_since d.size old (c.layout-layout.ensures.kept c.requires.is_open holds))
+    goes_on_to d.content d.moment d.left_since d.size c.refuse_deck.result old old _ c.refuse_deck.ensures.desk (goes_still d.content d.moment d.left_since d.size d.told d.may_leave old holds (laws.only_now (disk_of old)) (laws.sized (disk_of old) (d.moment (disk_of old))))
 
 pub returns-in-Ok-clause-halt : goal.returns-in-Ok-clause-halt
 returns-in-Ok-clause-halt g c holds =
     let d = g.D.Disk in
+    let laws = g.met.D.Disk g.world.𝓛 g.world.𝓜 g.world.𝓡 ((λ s x. x), (λ x. x), (λ x. x), λ x. x) in
     let old = c.args.self.now.desk in
     let request = Deck c.args.deck.now in
     memory_here d.content d.moment d.left_since d.size c.refuse_deck.result old old _ [] (λ halt. HaltsSo halt (staffed_of d.content c.args.self.now) (request ∷ []) c.args.out.now c.refuse_deck.new.out) c.refuse_deck.ensures.desk
-    (goes_nowhere d.content d.moment d.left_since d.size old (c.layout-layout.ensures.kept c.requires.is_open holds)) (sym (append-nil _)) (comes_none _) c.refuse_deck.ensures.halt
+    (goes_still d.content d.moment d.left_since d.size d.told d.may_leave old holds (laws.only_now (disk_of old)) (laws.sized (disk_of old) (d.moment (disk_of old)))) (sym (append-nil _)) (comes_none _) c.refuse_deck.ensures.halt
 
 pub returns-in-Err-clause-halt : goal.returns-in-Err-clause-halt
 returns-in-Err-clause-halt g c holds =
     let d = g.D.Disk in
+    let laws = g.met.D.Disk g.world.𝓛 g.world.𝓜 g.world.𝓡 ((λ s x. x), (λ x. x), (λ x. x), λ x. x) in
     let old = c.args.self.now.desk in
-    stopped_here d.content d.moment d.left_since d.size old old (goes_nowhere d.content d.moment d.left_since d.size old (c.layout-layout.ensures.kept c.requires.is_open holds)) [] _ (sym (append-nil _)) (comes_none _)
+    stopped_here d.content d.moment d.left_since d.size old old (goes_still d.content d.moment d.left_since d.size d.told d.may_leave old holds (laws.only_now (disk_of old)) (laws.sized (disk_of old) (d.moment (disk_of old)))) [] _ (sym (append-nil _)) (comes_none _)

@@ -66,6 +66,7 @@ returns-in-Ok-Refused-clause-serves g c holds =
 pub returns-in-Ok-Job-clause-halt : goal.returns-in-Ok-Job-clause-halt
 returns-in-Ok-Job-clause-halt g c holds =
     let d = g.D.Disk in
+    let laws = g.met.D.Disk g.world.𝓛 g.world.𝓜 g.world.𝓡 ((λ s x. x), (λ x. x), (λ x. x), λ x. x) in
     let old = c.args.self.now.desk in
     let new = c.submit.new.self in
     let cards = c.args.cards.now in
@@ -74,8 +75,8 @@ returns-in-Ok-Job-clause-halt g c holds =
     let there = tables_in d.told d.content d.may_leave old holds in
     let came = spelled (event_in (submit_call (tables_in_memory old) cards)) in
     memory_here d.content d.moment d.left_since d.size c.accept.result old new _ came (λ halt. HaltsSo halt s (Deck cards ∷ []) c.args.out.now c.accept.new.out) (ap (λ (o : _). o.desk) c.accept.ensures.clerk)
-    (goes_done d.content d.moment d.left_since d.size old new came e.keeps.same_layout e.keeps.same_size (e.kept c.requires.is_open holds) (e.told holds.tells)
-    (c.layout-layout.ensures.kept e.keeps.is_open (e.comes holds).trusted))
+    (goes_done d.content d.moment d.left_since d.size d.told d.may_leave old new came e.keeps.same_layout e.keeps.same_size (e.kept c.requires.is_open holds) (e.told holds.tells)
+    (e.comes holds).trusted (laws.only_now (disk_of new)))
     (came_there d.content old new came e.keeps.same_layout (e.told holds.tells))
     (comes_one s (Deck cards) came came
     (subst (λ (t : TablesModel). ComesTo (request_events s (Deck cards)) (spelled (event_in (submit_call t cards))) (spelled (event_in (submit_call t cards)))) (sym there)
@@ -85,6 +86,7 @@ returns-in-Ok-Job-clause-halt g c holds =
 pub returns-in-Ok-Refused-clause-halt : goal.returns-in-Ok-Refused-clause-halt
 returns-in-Ok-Refused-clause-halt g c holds =
     let d = g.D.Disk in
+    let laws = g.met.D.Disk g.world.𝓛 g.world.𝓜 g.world.𝓡 ((λ s x. x), (λ x. x), (λ x. x), λ x. x) in
     let old = c.args.self.now.desk in
     let new = c.submit.new.self in
     let cards = c.args.cards.now in
@@ -93,8 +95,8 @@ returns-in-Ok-Refused-clause-halt g c holds =
     let there = tables_in d.told d.content d.may_leave old holds in
     let came = spelled (event_in (submit_call (tables_in_memory old) cards)) in
     memory_here d.content d.moment d.left_since d.size c.refuse_deck.result old new _ came (λ halt. HaltsSo halt s (Deck cards ∷ []) c.args.out.now c.refuse_deck.new.out) c.refuse_deck.ensures.desk
-    (goes_done d.content d.moment d.left_since d.size old new came e.keeps.same_layout e.keeps.same_size (e.kept c.requires.is_open holds) (e.told holds.tells)
-    (c.layout-layout-in-Ok-Refused.ensures.kept e.keeps.is_open (e.comes holds).trusted))
+    (goes_done d.content d.moment d.left_since d.size d.told d.may_leave old new came e.keeps.same_layout e.keeps.same_size (e.kept c.requires.is_open holds) (e.told holds.tells)
+    (e.comes holds).trusted (laws.only_now (disk_of new)))
     (came_there d.content old new came e.keeps.same_layout (e.told holds.tells))
     (comes_one s (Deck cards) came came
     (subst (λ (t : TablesModel). ComesTo (request_events s (Deck cards)) (spelled (event_in (submit_call t cards))) (spelled (event_in (submit_call t cards)))) (sym there)
@@ -142,20 +144,22 @@ returns-in-Err-DiskFault-clause-halt g c holds =
 pub returns-in-Ok-Job-clause-goes : goal.returns-in-Ok-Job-clause-goes
 returns-in-Ok-Job-clause-goes g c holds =
     let d = g.D.Disk in
+    let laws = g.met.D.Disk g.world.𝓛 g.world.𝓜 g.world.𝓡 ((λ s x. x), (λ x. x), (λ x. x), λ x. x) in
     let old = c.args.self.now.desk in
     let e = c.in-Ok-Job.ensures in
     goes_on_to d.content d.moment d.left_since d.size c.accept.result old c.submit.new.self _ (ap (λ (o : _). o.desk) c.accept.ensures.clerk)
-    (goes_done d.content d.moment d.left_since d.size old c.submit.new.self _ e.keeps.same_layout e.keeps.same_size (e.kept c.requires.is_open holds) (e.told holds.tells)
-    (c.layout-layout.ensures.kept e.keeps.is_open (e.comes holds).trusted))
+    (goes_done d.content d.moment d.left_since d.size d.told d.may_leave old c.submit.new.self _ e.keeps.same_layout e.keeps.same_size (e.kept c.requires.is_open holds) (e.told holds.tells)
+    (e.comes holds).trusted (laws.only_now (disk_of c.submit.new.self)))
 
 pub returns-in-Ok-Refused-clause-goes : goal.returns-in-Ok-Refused-clause-goes
 returns-in-Ok-Refused-clause-goes g c holds =
     let d = g.D.Disk in
+    let laws = g.met.D.Disk g.world.𝓛 g.world.𝓜 g.world.𝓡 ((λ s x. x), (λ x. x), (λ x. x), λ x. x) in
     let old = c.args.self.now.desk in
     let e = c.in-Ok-Refused.ensures in
     goes_on_to d.content d.moment d.left_since d.size c.refuse_deck.result old c.submit.new.self _ c.refuse_deck.ensures.desk
-    (goes_done d.content d.moment d.left_since d.size old c.submit.new.self _ e.keeps.same_layout e.keeps.same_size (e.kept c.requires.is_open holds) (e.told holds.tells)
-    (c.layout-layout-in-Ok-Refused.ensures.kept e.keeps.is_open (e.comes holds).trusted))
+    (goes_done d.content d.moment d.left_since d.size d.told d.may_leave old c.submit.new.self _ e.keeps.same_layout e.keeps.same_size (e.kept c.requires.is_open holds) (e.told holds.tells)
+    (e.comes holds).trusted (laws.only_now (disk_of c.submit.new.self)))
 
 pub returns-in-Ok-Job-clause-trusted : goal.returns-in-Ok-Job-clause-trusted
 returns-in-Ok-Job-clause-trusted g c =
