@@ -1,32 +1,30 @@
 -- What holds of the jobs in memory holds behind an event that follows.
-use Rattle.std.proofs.Common.{◌≡◌, ◌==◌, ◌&&◌, ◌||◌, ℕ, zero, suc, Bool, true, false, not, cond, List, ◌∷◌, map, filter, refl, ap, sym, ◌∙◌, subst, Option, None, Some, arith, []}
+use Rattle.std.proofs.Common.{◌≡◌, ◌==◌, ◌&&◌, ◌||◌, ℕ, suc, Bool, true, false, not, cond, List, ◌∷◌, map, filter, refl, ap, sym, ◌∙◌, subst, Option, None, Some, arith, []}
 use Rattle.std.proofs.lemmas.Bool.{and_from, false≢true, or_right}
-use Rattle.std.specs.Prelude.{if◌then◌else◌, nat_eq, nat_le}
+use Rattle.std.specs.Prelude.{if◌then◌else◌, nat_le}
 use Rattle.std.specs.List.{AllByRecursion}
-use Rattle.std.specs.Option.{is_none, is_some, option_eq, option_map, option_map_or}
+use Rattle.std.specs.Option.{is_none, is_some, option_map, option_map_or}
 use Rattle.ckr_base.proofs.Bools.{and-first, and-second, bool-cases, if-then, or-cases}
 use Rattle.ckr_base.proofs.Options.{is_none-true, is_some-from}
 use Rattle.ckr_base.proofs.Numbers.{equal-true, nat_le-from, nat_le-true}
 use Rattle.ckr_base.proofs.Sequences.{each-append, find-passes}
 use Rattle.ckr_events.specs.declared.event.Event.{Event}
-use Rattle.ckr_events.specs.declared.event.Event.TheVariants.{Submitted, Selected, Denied, Started, Rewritten, Checkpointed, Cancelled, StepEnded, Restarted, Held, Released, Ended, Purged}
+use Rattle.ckr_events.specs.declared.event.Event.TheVariants.{Submitted, Selected, Held}
 use Rattle.ckr_base.specs.declared.code.Code.{Code}
-use Rattle.ckr_events.specs.declared.event.Ending.{Ending}
-use Rattle.ckr_events.specs.declared.event.Ending.TheVariants.{Completed, Coded, Allocation}
 use Rattle.ckr_jcl.specs.declared.deck.Job.{Job}
 use Rattle.ckr_meaning.specs.Allotments.{opened_all}
-use Rattle.ckr_meaning.specs.EffectiveJob.{Effective, OwnedStep, flaws_in, placed_in, stamp_of, step_at}
+use Rattle.ckr_meaning.specs.EffectiveJob.{Effective, OwnedStep, placed_in, stamp_of, step_at}
 use Rattle.ckr_meaning.specs.declared.place.Place.{Place}
 use Rattle.ckr_meaning.specs.declared.place.Place.TheVariants.{Before, Opened, Within}
 use Rattle.ckr_volumes.specs.declared.layout.Layout.{Layout}
 use Rattle.ckr_points.specs.Marks.{point_at}
 use Rattle.ckr_points.specs.Office.{is_holder}
-use Rattle.ckr_points.specs.Tables.{after_commit, after_held, effect_rewritten, point_rewritten, queued_run, start_point}
+use Rattle.ckr_points.specs.Tables.{after_commit, after_held, effect_rewritten, point_rewritten, queued_run, start_point, after_checkpointed, after_dispositions, after_rewritten, after_selected, after_started, after_step_ended, fresh_effect, is_checkpoints, name_with_role}
 use Rattle.ckr_points.specs.declared.run.RunState.{RunState}
-use Rattle.ckr_points.specs.declared.run.RunState.TheVariants.{Queued, On, Held as HeldRun, Released as ReleasedRun, Denied as DeniedRun, Purged as PurgedRun}
-use Rattle.ckr_points.specs.Follows.{ended_follows, follows, is_checkpoint, is_empty, is_free, is_in_state, is_rewrite, is_running, is_within, lengths_follow, may_hold, may_restart_again, may_start, of_run, of_step, selected_follows, started_follows, state_number}
-use Rattle.ckr_points.specs.Restart.{after_abnormal, after_coded, after_ended, after_event, after_restarted, by_step, carried_point, kept_at, place_of, spliced, step_in}
-use Rattle.ckr_points.specs.Rows.{RunRow, StartPoint, TableSet, TablesModel, run_of, standing_of, step_of_run, table_ways, with_row}
+use Rattle.ckr_points.specs.declared.run.RunState.TheVariants.{Queued, On, Held as HeldRun, Released as ReleasedRun}
+use Rattle.ckr_points.specs.Follows.{follows, is_in_state, is_running, is_within, may_start, state_number, own_step}
+use Rattle.ckr_points.specs.Restart.{after_event, carried_point, place_of, spliced, step_in, after_passed_ended}
+use Rattle.ckr_points.specs.Rows.{RunRow, StartPoint, TableSet, TablesModel, run_of, standing_of, step_of_run, table_ways, with_row, EffectPoint}
 use Rattle.ckr_library.specs.NameMaps.{Named}
 use Rattle.ckr_points_invariant.proofs.Holders.Rows.{queued-is}
 use Rattle.ckr_desk_turn.proofs.AdmittedSteps.{spliced-here}
@@ -34,16 +32,20 @@ use Rattle.ckr_points_invariant.proofs.Steps.Events.{on-holds}
 use Rattle.ckr_points_invariant.proofs.Marks.Points.{point_at-new}
 use Rattle.ckr_desk_turn.specs.Invariant.{is_off, is_on_one}
 use Rattle.ckr_desk_turn.specs.Spelling.{IsCode}
-use Rattle.ckr_desk_memory.specs.Invariant.{IsAnyAccepted, IsPlacedRow, is_in_step}
+use Rattle.ckr_desk_memory.specs.Invariant.{IsAnyAccepted, IsAnyPlaceOf, IsPlacedRow, is_begun, is_in_step}
 use Rattle.ckr_desk_memory.specs.Parts.{step_seen}
 use Rattle.ckr_desk_plans.specs.declared.running_step.RunningStep.{RunningStep}
 use Rattle.ckr_desk_memory.specs.View.{RunningStepView}
 use Rattle.ckr_desk_memory.specs.EventChanges.{without_run}
 use Rattle.ckr_desk_memory.proofs.Continuations.{by-continuation}
 use Rattle.ckr_desk_memory.proofs.Starts.Steps.{row-among}
-use Rattle.ckr_desk_memory.proofs.Extents.{tested, tested-step}
 use Rattle.ckr_desk_memory.proofs.Queue.{held-is, on-is, released-is}
-use Rattle.ckr_desk_memory.proofs.Runs.{by-run, by-step, each-put}
+use Rattle.ckr_desk_memory.proofs.Runs.{each-put}
+use Rattle.ckr_desk_memory.proofs.EventCases.{HoldsWith, IsHand, RunCases, by-run-cases}
+use Rattle.ckr_desk_memory.proofs.EventRows.{IsSelected, IsStarting, after_end_within}
+use Rattle.ckr_library.specs.declared.sets.Kept.{Kept}
+use Rattle.ckr_events.specs.declared.event.Made.{Made}
+use Rattle.ckr_events.specs.Jobs.{job_of}
 
 -- ---- the places and codes of the runs
 
@@ -127,20 +129,24 @@ in_step-within row inside = and-second (is_holder row.state) (is_within (place_o
 pub running_within : (row : RunRow) → is_running row ≡ true → is_within (place_of row) ≡ true
 running_within row runs = and-second (is_in_state On row) (is_within (place_of row)) runs
 
-placed_abnormal : (row : RunRow) (place : Place) (tables : TablesModel) → IsPlacedRow row → ArePlaced tables → ArePlaced (after_abnormal row place tables)
-placed_abnormal row (Before step) tables is placed = placed_put tables.runs row.number _ (record { place = is.place; from = is.from; early = refl; begun = is.begun; idle = refl; lodged = refl; seated = refl; code = refl; coded = tt; off = refl }) placed
-placed_abnormal row (Opened step) tables is placed = placed_put tables.runs row.number _ (record { place = is.place; from = is.from; early = refl; begun = is.begun; idle = refl; lodged = refl; seated = refl; code = refl; coded = tt; off = refl }) placed
-placed_abnormal row (Within step writes) tables is placed =
-    by-step ArePlaced tables (step_of_run row step) _ placed (λ owned there. placed_put tables.runs row.number _ (record { place = is.place; from = is.from; early = refl; begun = is.begun; idle = refl; lodged = refl; seated = refl; code = refl; coded = tt; off = refl }) placed)
+-- a run that ends has its place still
+placed_over : (row : RunRow) (tables : TablesModel) → IsAnyPlaceOf row.job row.place → nat_le row.earlier_step (step_in (place_of row)) ≡ true → is_begun row ≡ true → ArePlaced tables → ArePlaced (after_passed_ended row tables)
+placed_over row tables place from begun placed = placed_put tables.runs row.number _ (record { place = place; from = from; early = refl; begun = begun; idle = refl; lodged = refl; seated = refl; code = refl; coded = tt; off = refl }) placed
 
--- a row that goes on within its step
-placed_within : (row : RunRow) (owned : OwnedStep) (writes : ℕ) → step_of_run row (step_in (place_of row)) ≡ Some owned → is_within (place_of row) ≡ true → IsPlacedRow row → IsPlacedRow (record row { place = Some (Within (step_in (place_of row)) writes) })
-placed_within row owned writes there within is = record {
-  place = is_some-from (step_of_run row (step_in (place_of row))) owned there;
+placed_end_within : (row : RunRow) (owned : OwnedStep) (step : ℕ) (tables : TablesModel) → IsPlacedRow row → ArePlaced tables → ArePlaced (after_end_within row owned step tables)
+placed_end_within row owned step tables is placed =
+    let done = after_dispositions row owned step true tables in
+    placed_over (record row { passed = done.passed }) (record tables { sets = done.sets }) is.place is.from is.begun placed
+
+-- a row that goes on within its step, as one of a run that counts its entries, with these points, and this checkpoint in effect
+placed_going : (row : RunRow) (owned : OwnedStep) (count writes : ℕ) (points : List StartPoint) (effect : Option EffectPoint) → own_step row ≡ Some owned → is_within (place_of row) ≡ true → is_some (point_at points (step_in (place_of row))) ≡ true → (is_holder row.state && true || is_none effect) ≡ true → IsPlacedRow row
+    → IsPlacedRow (record row { count = count; points = points; in_effect = effect; place = Some (Within (step_in (place_of row)) writes) })
+placed_going row owned count writes points effect found within begun idle is = record {
+  place = is_some-from (own_step row) owned found;
   from = is.from;
   early = early-by row _ (within-waits row within is);
-  begun = begun-within row within is;
-  idle = ap (λ b. is_holder row.state && b || is_none row.in_effect) (sym within) ∙ is.idle;
+  begun = begun;
+  idle = idle;
   lodged = is.lodged;
   seated = is.seated;
   code = is.code;
@@ -148,20 +154,13 @@ placed_within row owned writes there within is = record {
   off = or_right (not (is_off row.state)) true refl;
 }
 
+placed_within : (row : RunRow) (owned : OwnedStep) (writes : ℕ) → own_step row ≡ Some owned → is_within (place_of row) ≡ true → IsPlacedRow row → IsPlacedRow (record row { place = Some (Within (step_in (place_of row)) writes) })
+placed_within row owned writes found within is =
+    placed_going row owned row.count writes row.points row.in_effect found within (begun-within row within is) (ap (λ b. is_holder row.state && b || is_none row.in_effect) (sym within) ∙ is.idle) is
+
 placed_commit : (row : RunRow) (owned : OwnedStep) (writes : ℕ) (lengths : List ℕ) (tables : TablesModel) → step_of_run row (step_in (place_of row)) ≡ Some owned → is_within (place_of row) ≡ true → IsPlacedRow row → ArePlaced tables
     → ArePlaced (after_commit row owned (step_in (place_of row)) writes lengths tables)
 placed_commit row owned writes lengths tables there within is placed = placed_put tables.runs row.number _ (placed_within row owned writes there within is) placed
-
-placed_coded : (row : RunRow) (writes : ℕ) (lengths : List ℕ) (tables : TablesModel) → is_within (place_of row) ≡ true → IsPlacedRow row → ArePlaced tables → ArePlaced (after_coded row writes lengths tables)
-placed_coded row writes lengths tables within is placed =
-    by-step ArePlaced tables (step_of_run row (step_in (place_of row))) _ placed
-    (λ owned there.
-    placed_abnormal (record row { place = Some (Within (step_in (place_of row)) writes) }) (Within (step_in (place_of row)) writes) (after_commit row owned (step_in (place_of row)) writes lengths tables)
-    (placed_within row owned writes there within is) (placed_commit row owned writes lengths tables there within is placed))
-
--- a run that ends by a code is within its step
-coded_within : (row : RunRow) (tables : TablesModel) (lengths : List ℕ) → IsPlacedRow row → ((is_running row || is_in_state ReleasedRun row) && lengths_follow tables row lengths) ≡ true → is_within (place_of row) ≡ true
-coded_within row tables lengths is follow = in_step-within row (hand-in_step row (and-first (is_running row || is_in_state ReleasedRun row) _ follow) is)
 
 -- one that is held is within it too, and has its code
 placed_held : (row : RunRow) (owned : OwnedStep) (code : Code) (writes : ℕ) (lengths : List ℕ) (tables : TablesModel) → IsCode code → step_of_run row (step_in (place_of row)) ≡ Some owned → is_within (place_of row) ≡ true → IsPlacedRow row → ArePlaced tables
@@ -197,11 +196,6 @@ placed_released row held is =
       off = sym (ap (λ (state : RunState). not (is_off state) || is_within (place_of row)) state) ∙ is.off;
     }
 
-placed_ended : (row : RunRow) (ending : Ending) (tables : TablesModel) → ended_follows tables row ending ≡ true → IsPlacedRow row → ArePlaced tables → ArePlaced (after_ended row ending tables)
-placed_ended row Completed tables follow is placed = placed_put tables.runs row.number _ (record { place = is.place; from = is.from; early = refl; begun = is.begun; idle = refl; lodged = refl; seated = refl; code = refl; coded = tt; off = refl }) placed
-placed_ended row (Coded code rule writes lengths) tables follow is placed = placed_coded row writes lengths.items tables (coded_within row tables lengths.items is follow) is placed
-placed_ended row (Allocation dd cause first second) tables follow is placed = placed_abnormal row (place_of row) tables is placed
-
 -- no checkpoint is in effect of a run that waits, and of one that isn't within a step
 pub idle_queued : (row : RunRow) → is_in_state Queued row ≡ true → IsPlacedRow row → is_none row.in_effect ≡ true
 idle_queued row waits is =
@@ -217,16 +211,6 @@ idle-between row between is = by (is_holder row.state) (is_none row.in_effect) (
     by : (a n : Bool) → (a && false || n) ≡ true → n ≡ true
     by true n e = e
     by false n e = e
-
-placed_selected : (layout : Layout) (tables : TablesModel) (job initiator step : ℕ) (id : Option (List ℕ)) (deck : Option Job) → follows layout tables (Selected job initiator 0 step id) deck ≡ true → ArePlaced tables
-    → ArePlaced (after_event (Selected job initiator 0 step id) deck tables)
-placed_selected layout tables job initiator step id deck follow placed =
-    by-run ArePlaced tables job _ placed
-    (λ row at.
-    let its = row-among IsPlacedRow tables job row placed at in
-    let asked = tested tables job (selected_follows layout tables initiator 0 step id) follow row at in
-    let waits = and-first (is_in_state Queued row) _ (and-first (is_in_state Queued row && is_free layout tables initiator) _ (and-first (is_in_state Queued row && is_free layout tables initiator && may_hold tables row) _ asked)) in
-    placed_put tables.runs row.number _ (record { place = tt; from = ap (λ n. nat_le n 1) (early-queued row waits its); early = refl; begun = refl; idle = idle_queued row waits its; lodged = refl; seated = refl; code = code_queued row waits its; coded = its.coded; off = refl }) placed)
 
 -- a run that continues another one has the point of the start of the step
 continued_begun : (step : ℕ) (points : List StartPoint) (point : StartPoint) (job : Effective) (sets : Named TableSet) → point_at points step ≡ Some point → is_some (point_at (carried_point job sets point ∷ []) step) ≡ true
@@ -269,200 +253,147 @@ placed_submitted : (tables : TablesModel) (job : ℕ) (cards : List ℕ) (deck :
 placed_submitted tables job cards None placed = placed
 placed_submitted tables job cards (Some deck) placed = each-append IsPlacedRow tables.runs (queued_run job deck ∷ []) placed (record { place = tt; from = refl; early = refl; begun = refl; idle = refl; lodged = refl; seated = refl; code = refl; coded = tt; off = refl }, tt)
 
--- a run that waits is on no initiator, also where it is purged
-off_purged : (row : RunRow) → is_in_state Queued row ≡ true → IsPlacedRow row → IsPlacedRow (record row { state = PurgedRun })
-off_purged row waits is = record {
+-- a run that holds nothing is on no initiator, and isn't off one
+free-one : (state : RunState) → is_holder state ≡ false → is_on_one state ≡ false
+free-one On free = absurd (false≢true (sym free))
+free-one _ free = refl
+
+free-off : (state : RunState) → is_holder state ≡ false → is_off state ≡ false
+free-off HeldRun free = absurd (false≢true (sym free))
+free-off ReleasedRun free = absurd (false≢true (sym free))
+free-off _ free = refl
+
+-- a run that waits is on no initiator, also where it leaves the queue
+placed_gone : (row : RunRow) (state : RunState) → is_in_state Queued row ≡ true → is_holder state ≡ false → is_in_state Queued (record row { state = state }) ≡ false → IsPlacedRow row → IsPlacedRow (record row { state = state })
+placed_gone row state waits free over is = record {
   place = is.place;
   from = is.from;
-  early = refl;
+  early = early-by (record row { state = state }) _ over;
   begun = is.begun;
-  idle = idle_queued row waits is;
-  lodged = sym (ap (λ (state : RunState). is_none row.initiator || is_on_one state) (queued-is row.state waits)) ∙ is.lodged;
-  seated = refl;
-  code = code_queued row waits is;
+  idle = or_right (is_in_step (record row { state = state })) (is_none row.in_effect) (idle_queued row waits is);
+  lodged = ap (λ b. is_none row.initiator || b) (free-one state free) ∙ sym (ap (λ (state : RunState). is_none row.initiator || is_on_one state) (queued-is row.state waits)) ∙ is.lodged;
+  seated = ap (λ b. not b || is_some row.initiator) (free-one state free);
+  code = ap (λ b. if b then is_some row.code else is_none row.code) (free-off state free) ∙ code_queued row waits is;
   coded = is.coded;
-  off = refl;
+  off = ap (λ b. not b || is_within (place_of row)) (free-off state free);
 }
 
--- so it is with one that is denied
-off_denied : (row : RunRow) → is_in_state Queued row ≡ true → IsPlacedRow row → IsPlacedRow (record row { state = DeniedRun })
-off_denied row waits is = record {
-  place = is.place;
-  from = is.from;
-  early = refl;
-  begun = is.begun;
-  idle = idle_queued row waits is;
-  lodged = sym (ap (λ (state : RunState). is_none row.initiator || is_on_one state) (queued-is row.state waits)) ∙ is.lodged;
-  seated = refl;
-  code = code_queued row waits is;
-  coded = is.coded;
-  off = refl;
-}
+-- the code of an event that holds its run has a spelling
+spelled : (event : Event) (deck : Option Job) → IsAnyAccepted event deck → (code : Code) → HoldsWith event code → IsCode code
+spelled (Held job code writes lengths) deck accepted held is = subst IsCode (sym is) accepted
+spelled _ deck accepted held is = absurd is
 
--- a run that is restarted was running or released, within its step
-pub restarts-in_step : (layout : Layout) (tables : TablesModel) (initiator : ℕ) (checkpoint : Bool) (row : RunRow) → IsPlacedRow row
-    → ((is_running row && option_eq nat_eq row.initiator (Some initiator) || is_in_state ReleasedRun row && is_free layout tables initiator) && may_restart_again checkpoint row) ≡ true → is_in_step row ≡ true
-restarts-in_step layout tables initiator checkpoint row is follow =
-    or-cases (is_running row && option_eq nat_eq row.initiator (Some initiator)) (is_in_state ReleasedRun row && is_free layout tables initiator)
-    (and-first (is_running row && option_eq nat_eq row.initiator (Some initiator) || is_in_state ReleasedRun row && is_free layout tables initiator) (may_restart_again checkpoint row) follow)
-    (λ running. running-in_step row (and-first (is_running row) _ running))
-    (λ released. released-in_step row (and-first (is_in_state ReleasedRun row) _ released) is)
+module _ (layout : Layout) (tables : TablesModel) (event : Event) (deck : Option Job) (accepted : IsAnyAccepted event deck) (placed : ArePlaced tables) where
+  abbrev job : ℕ
+  job = job_of event
 
--- a run that goes back to the start of its step is on its initiator, and isn't within the step; one that goes back to its checkpoint is within it
-placed_restarted : (row : RunRow) (initiator : ℕ) (checkpoint : Bool) (tables : TablesModel) → is_in_step row ≡ true → IsPlacedRow row → ArePlaced tables → ArePlaced (by_step (λ owned step. after_restarted row owned step initiator checkpoint tables) row tables)
-placed_restarted row initiator true tables inside is placed =
-    by-step ArePlaced tables (step_of_run row (step_in (place_of row))) _ placed
-    (λ owned there.
-    by-step ArePlaced tables row.in_effect _ placed
-    (λ effect now.
-    by-step ArePlaced tables (kept_at tables.sets effect.set effect.kept.id) _ placed
-    (λ entry kept.
-    placed_put tables.runs row.number _ (record {
-      place = is_some-from (step_of_run row (step_in (place_of row))) owned there;
-      from = is.from;
-      early = refl;
-      begun = begun-within row (in_step-within row inside) is;
-      idle = refl;
-      lodged = refl;
-      seated = refl;
-      code = refl;
-      coded = tt;
-      off = refl;
-    }) placed)))
-placed_restarted row initiator false tables inside is placed =
-    by-step ArePlaced tables (step_of_run row (step_in (place_of row))) _ placed
-    (λ owned there.
-    by-step ArePlaced tables (point_at row.points (step_in (place_of row))) _ placed
-    (λ point began. placed_put tables.runs row.number _ (record { place = tt; from = is.from; early = refl; begun = refl; idle = refl; lodged = refl; seated = refl; code = refl; coded = tt; off = refl }) placed))
+  its : (row : RunRow) → run_of tables job ≡ Some row → IsPlacedRow row
+  its row at = row-among IsPlacedRow tables job row placed at
 
-step_ended_runs : (tables : TablesModel) (job step : ℕ) (lengths : List ℕ) → of_run tables job (λ row. is_running row && step_in (place_of row) == step && lengths_follow tables row lengths) ≡ true → (row : RunRow) → run_of tables job ≡ Some row → is_running row ≡ true
-step_ended_runs tables job step lengths follow row at =
-    and-first (is_running row) _
-    (and-first (is_running row && step_in (place_of row) == step) (lengths_follow tables row lengths) (tested tables job (λ row. is_running row && step_in (place_of row) == step && lengths_follow tables row lengths) follow row at))
+  inside : (row : RunRow) → run_of tables job ≡ Some row → IsHand row → is_in_step row ≡ true
+  inside row at hand = hand-in_step row hand (its row at)
+
+  placed_selected : (initiator : ℕ) (row : RunRow) → IsSelected tables job row → ArePlaced (after_selected row initiator tables)
+  placed_selected initiator row chosen =
+      let is = its row chosen.row_at in
+      placed_put tables.runs row.number _ (record { place = tt; from = ap (λ n. nat_le n 1) (early-queued row chosen.queued is); early = refl; begun = refl; idle = idle_queued row chosen.queued is; lodged = refl; seated = refl; code = code_queued row chosen.queued is; coded = is.coded; off = refl }) placed
+
+  placed_started : (step : ℕ) (items : List Made) (row : RunRow) (owned : OwnedStep) → IsStarting layout tables job step items row owned → ArePlaced (after_started row owned step items tables)
+  placed_started step items row owned starts =
+      let is = its row starts.row_at in
+      placed_put tables.runs row.number _ (record {
+        place = is_some-from (step_of_run row step) owned starts.found;
+        from = subst (λ n. nat_le row.earlier_step n ≡ true) (start-step step (place_of row) starts.ahead) is.from;
+        early = early-by row _ (ap (λ state. state_number state == 1) (on-is row.state starts.on));
+        idle = or_right (is_holder row.state && true) (is_none row.in_effect) (idle-between row (not-within step (place_of row) starts.ahead) is);
+        begun = ap is_some (point_at-new (start_point row step (opened_all table_ways (stamp_of owned step) (placed_in table_ways (standing_of row tables) row.job.root owned) tables.sets)) row.points);
+        lodged = is.lodged;
+        seated = is.seated;
+        code = is.code;
+        coded = is.coded;
+        off = or_right (not (is_off row.state)) true refl;
+      }) placed
+
+  placed_rewritten : (writes : ℕ) (lengths : List ℕ) (row : RunRow) (owned : OwnedStep) → run_of tables job ≡ Some row → own_step row ≡ Some owned → is_running row ≡ true → ArePlaced (after_rewritten row owned (step_in (place_of row)) writes lengths tables)
+  placed_rewritten writes lengths row owned at found runs =
+      let is = its row at in
+      let within = running_within row runs in
+      placed_put tables.runs row.number _
+      (placed_going row owned row.count writes (map (point_rewritten (step_in (place_of row))) row.points) (option_map effect_rewritten row.in_effect) found within
+      (rewritten_point (step_in (place_of row)) (step_in (place_of row)) row.points ∙ begun-within row within is)
+      (ap (λ b. b && true || is_none (option_map effect_rewritten row.in_effect)) (on-holds row.state (and-first (is_in_state On row) _ runs))) is) placed
+
+  placed_checkpointed : (kept : Kept) (taken writes : ℕ) (lengths : List ℕ) (row : RunRow) (owned : OwnedStep) → run_of tables job ≡ Some row → own_step row ≡ Some owned → is_running row ≡ true → ArePlaced (after_checkpointed row owned (step_in (place_of row)) kept taken writes lengths tables)
+  placed_checkpointed kept taken writes lengths row owned at found runs =
+      let is = its row at in
+      let within = running_within row runs in
+      placed_put tables.runs row.number _
+      (placed_going row owned (suc row.count) writes row.points (Some (fresh_effect (name_with_role row.job.root owned is_checkpoints) kept)) found within (begun-within row within is)
+      (ap (λ b. b && true || false) (on-holds row.state (and-first (is_in_state On row) _ runs))) is) placed
+
+  placed_step_done : (rc writes : ℕ) (lengths : List ℕ) (row : RunRow) (owned : OwnedStep) → run_of tables job ≡ Some row → own_step row ≡ Some owned → is_running row ≡ true → ArePlaced (after_step_ended row owned (step_in (place_of row)) rc writes lengths tables)
+  placed_step_done rc writes lengths row owned at found runs =
+      let is = its row at in
+      placed_put (after_commit row owned (step_in (place_of row)) writes lengths tables).runs row.number _ (record {
+        place = tt;
+        from = nat_le-from row.earlier_step (suc (step_in (place_of row))) (let past = nat_le-true row.earlier_step (step_in (place_of row)) is.from in omega (arith, past));
+        early = early-by row _ (within-waits row (running_within row runs) is);
+        begun = refl;
+        idle = or_right (is_holder row.state && false) true refl;
+        lodged = is.lodged;
+        seated = is.seated;
+        code = is.code;
+        coded = is.coded;
+        off = ap (λ (state : RunState). not (is_off state) || false) (on-is row.state (and-first (is_in_state On row) (is_within (place_of row)) runs));
+      })
+      (placed_commit row owned writes lengths tables found (running_within row runs) is placed)
+
+  placed-cases : RunCases layout tables event ArePlaced
+  placed-cases = record {
+    selected = placed_selected;
+    gone = λ row state at queued free over. placed_put tables.runs row.number _ (placed_gone row state queued free over (its row at)) placed;
+    started = placed_started;
+    rewritten = λ writes place lengths image row owned does. placed_rewritten writes lengths row owned does.at.row_at does.at.found does.runs;
+    checkpointed = λ taken writes place bytes id lengths row owned does. placed_checkpointed _ taken writes lengths row owned does.at.row_at does.at.found does.runs;
+    withdrawn = λ row at runs.
+        let is = its row at in
+        placed_put tables.runs row.number _ (record { place = is.place; from = is.from; early = is.early; begun = is.begun; idle = or_right (is_in_step row) true refl; lodged = is.lodged; seated = is.seated; code = is.code; coded = is.coded; off = is.off }) placed;
+    step_done = λ rc writes lengths row owned does. placed_step_done rc writes lengths row owned does.at.row_at does.at.found does.runs;
+    held = λ code writes lengths row owned with_code does.
+        placed_held row owned code writes lengths tables (spelled event deck accepted code with_code) does.at.found (in_step-within row (inside row does.at.row_at does.hand)) (its row does.at.row_at) placed;
+    released = λ row at held. placed_put tables.runs row.number _ (placed_released row held (its row at)) placed;
+    -- a run that goes back to the start of its step is on its initiator, and isn't within the step; one that goes back to its checkpoint is within it
+    restarted = λ initiator row owned point at hand found began.
+        placed_put tables.runs row.number _ (record { place = tt; from = (its row at).from; early = refl; begun = refl; idle = refl; lodged = refl; seated = refl; code = refl; coded = tt; off = refl }) placed;
+    goes_back = λ initiator row owned effect entry at hand found now kept.
+        let is = its row at in
+        placed_put tables.runs row.number _ (record {
+          place = is_some-from (own_step row) owned found;
+          from = is.from;
+          early = refl;
+          begun = begun-within row (in_step-within row (inside row at hand)) is;
+          idle = refl;
+          lodged = refl;
+          seated = refl;
+          code = refl;
+          coded = tt;
+          off = refl;
+        }) placed;
+    unmoved = λ row at hand. placed;
+    ended = λ row does. let is = its row does.row_at in placed_over row tables is.place is.from is.begun placed;
+    coded = λ writes lengths row owned does.
+        let within = in_step-within row (inside row does.at.row_at does.hand) in
+        placed_end_within (record row { place = Some (Within (step_in (place_of row)) writes) }) owned (step_in (place_of row)) (after_commit row owned (step_in (place_of row)) writes lengths tables)
+        (placed_within row owned writes does.at.found within (its row does.at.row_at)) (placed_commit row owned writes lengths tables does.at.found within (its row does.at.row_at) placed);
+    refused = λ row owned does. placed_end_within row owned (step_in (place_of row)) tables (its row does.row_at) placed;
+  }
 
 -- An event that follows leaves a run within no step that it hasn't, that it doesn't execute itself or that has no point; a run is on an initiator exactly where
 -- it has one, and has a code exactly while it is off its initiator within a step.
 pub placed-behind : (layout : Layout) (tables : TablesModel) (event : Event) (deck : Option Job) → IsAnyAccepted event deck → follows layout tables event deck ≡ true → AllByRecursion IsPlacedRow tables.runs → AllByRecursion IsPlacedRow (after_event event deck tables).runs
 placed-behind layout tables (Submitted job cards) deck accepted follow placed = placed_submitted tables job cards deck placed
-placed-behind layout tables (Selected job initiator zero step id) deck accepted follow placed = placed_selected layout tables job initiator step id deck follow placed
 placed-behind layout tables (Selected job initiator (suc before) step id) deck accepted follow placed = placed_continued layout tables job initiator before step id deck follow placed
-placed-behind layout tables (Denied job rule name) deck accepted follow placed =
-    by-run ArePlaced tables job _ placed
-    (λ row at.
-    placed_put tables.runs row.number _
-    (off_denied row (and-first (is_in_state Queued row) _ (tested tables job (λ row. is_in_state Queued row && is_some row.deck.restart) follow row at)) (row-among IsPlacedRow tables job row placed at)) placed)
-placed-behind layout tables (Started job step items) deck accepted follow placed =
-    by-run ArePlaced tables job _ placed
-    (λ row at.
-    let is = row-among IsPlacedRow tables job row placed at in
-    by-step ArePlaced tables (step_of_run row step) _ placed
-    (λ owned there.
-    let may =
-    and-first (may_start step (place_of row)) _
-    (and-first (may_start step (place_of row) && is_empty (flaws_in (placed_in table_ways (standing_of row tables) row.job.root owned))) _
-    (tested-step (step_of_run row step) _ (and-second (is_in_state On row) _ (tested tables job (started_follows layout tables step items.items) follow row at)) owned there)) in
-    placed_put tables.runs row.number _ (record {
-      place = is_some-from (step_of_run row step) owned there;
-      from = subst (λ n. nat_le row.earlier_step n ≡ true) (start-step step (place_of row) may) is.from;
-      early = early-by row _ (ap (λ state. state_number state == 1) (on-is row.state (and-first (is_in_state On row) _ (tested tables job (started_follows layout tables step items.items) follow row at))));
-      idle = or_right (is_holder row.state && true) (is_none row.in_effect) (idle-between row (not-within step (place_of row) may) is);
-      begun = ap is_some (point_at-new (start_point row step (opened_all table_ways (stamp_of owned step) (placed_in table_ways (standing_of row tables) row.job.root owned) tables.sets)) row.points);
-      lodged = is.lodged;
-      seated = is.seated;
-      code = is.code;
-      coded = is.coded;
-      off = or_right (not (is_off row.state)) true refl;
-    }) placed))
-placed-behind layout tables (Rewritten job taken writes lengths place image) deck accepted follow placed =
-    by-run ArePlaced tables job _ placed
-    (λ row at.
-    let is = row-among IsPlacedRow tables job row placed at in
-    by-step ArePlaced tables (step_of_run row (step_in (place_of row))) _ placed
-    (λ owned there.
-    let runs = (and-first (is_running row) _ (and-first _ (of_step row (is_rewrite tables place image row)) (tested tables job (λ row. is_running row && lengths_follow tables row lengths.items && of_step row (is_rewrite tables place image row)) follow row at))) in
-    let within = running_within row runs in
-    placed_put tables.runs row.number _ (record {
-      place = is_some-from (step_of_run row (step_in (place_of row))) owned there;
-      from = is.from;
-      early = early-by row _ (within-waits row within is);
-      idle = ap (λ b. b && true || is_none (option_map effect_rewritten row.in_effect)) (on-holds row.state (and-first (is_in_state On row) _ runs));
-      begun = rewritten_point (step_in (place_of row)) (step_in (place_of row)) row.points ∙ begun-within row within is;
-      lodged = is.lodged;
-      seated = is.seated;
-      code = is.code;
-      coded = is.coded;
-      off = or_right (not (is_off row.state)) true refl;
-    }) placed))
-placed-behind layout tables (Checkpointed job id taken writes lengths place bytes) deck accepted follow placed =
-    by-run ArePlaced tables job _ placed
-    (λ row at.
-    let is = row-among IsPlacedRow tables job row placed at in
-    by-step ArePlaced tables (step_of_run row (step_in (place_of row))) _ placed
-    (λ owned there.
-    let runs = (and-first (is_running row) _ (and-first _ (of_step row (is_checkpoint tables id lengths.items place bytes row)) (tested tables job (λ row. is_running row && lengths_follow tables row lengths.items && of_step row (is_checkpoint tables id lengths.items place bytes row)) follow row at))) in
-    let within = running_within row runs in
-    placed_put tables.runs row.number _ (record {
-      place = is_some-from (step_of_run row (step_in (place_of row))) owned there;
-      from = is.from;
-      early = early-by row _ (within-waits row within is);
-      begun = begun-within row within is;
-      idle = ap (λ b. b && true || false) (on-holds row.state (and-first (is_in_state On row) _ runs));
-      lodged = is.lodged;
-      seated = is.seated;
-      code = is.code;
-      coded = is.coded;
-      off = or_right (not (is_off row.state)) true refl;
-    }) placed))
-placed-behind layout tables (Cancelled job) deck accepted follow placed =
-    by-run ArePlaced tables job _ placed
-    (λ row at.
-    let is = row-among IsPlacedRow tables job row placed at in
-    placed_put tables.runs row.number _ (record { place = is.place; from = is.from; early = is.early; begun = is.begun; idle = or_right (is_in_step row) true refl; lodged = is.lodged; seated = is.seated; code = is.code; coded = is.coded; off = is.off }) placed)
-placed-behind layout tables (StepEnded job step rc writes lengths) deck accepted follow placed =
-    by-run ArePlaced tables job _ placed
-    (λ row at.
-    let is = row-among IsPlacedRow tables job row placed at in
-    by-step ArePlaced tables (step_of_run row (step_in (place_of row))) _ placed
-    (λ owned there.
-    let runs = step_ended_runs tables job step lengths.items follow row at in
-    placed_put (after_commit row owned (step_in (place_of row)) writes lengths.items tables).runs row.number _ (record {
-      place = tt;
-      from = nat_le-from row.earlier_step (suc (step_in (place_of row))) (let past = nat_le-true row.earlier_step (step_in (place_of row)) is.from in omega (arith, past));
-      early = early-by row _ (within-waits row (running_within row runs) is);
-      begun = refl;
-      idle = or_right (is_holder row.state && false) true refl;
-      lodged = is.lodged;
-      seated = is.seated;
-      code = is.code;
-      coded = is.coded;
-      off = ap (λ (state : RunState). not (is_off state) || false) (on-is row.state (and-first (is_in_state On row) (is_within (place_of row)) runs));
-    })
-    (placed_commit row owned writes lengths.items tables there (running_within row runs) is placed)))
-placed-behind layout tables (Restarted job initiator code checkpoint) deck accepted follow placed =
-    by-run ArePlaced tables job _ placed
-    (λ row at.
-    let is = row-among IsPlacedRow tables job row placed at in
-    placed_restarted row initiator checkpoint tables
-    (restarts-in_step layout tables initiator checkpoint row is
-    (tested tables job (λ row. (is_running row && option_eq nat_eq row.initiator (Some initiator) || is_in_state ReleasedRun row && is_free layout tables initiator) && may_restart_again checkpoint row) follow row at))
-    is placed)
-placed-behind layout tables (Held job code writes lengths) deck accepted follow placed =
-    by-run ArePlaced tables job _ placed
-    (λ row at.
-    let is = row-among IsPlacedRow tables job row placed at in
-    by-step ArePlaced tables (step_of_run row (step_in (place_of row))) _ placed
-    (λ owned there.
-    placed_held row owned code writes lengths.items tables accepted there
-    (coded_within row tables lengths.items is (tested tables job (λ row. (is_running row || is_in_state ReleasedRun row) && lengths_follow tables row lengths.items) follow row at)) is placed))
-placed-behind layout tables (Released job) deck accepted follow placed =
-    by-run ArePlaced tables job _ placed
-    (λ row at. placed_put tables.runs row.number _ (placed_released row (tested tables job (is_in_state HeldRun) follow row at) (row-among IsPlacedRow tables job row placed at)) placed)
-placed-behind layout tables (Ended job ending) deck accepted follow placed =
-    by-run ArePlaced tables job _ placed
-    (λ row at. placed_ended row ending tables (tested tables job (λ row. ended_follows tables row ending) follow row at) (row-among IsPlacedRow tables job row placed at) placed)
-placed-behind layout tables (Purged job) deck accepted follow placed =
-    by-run ArePlaced tables job _ placed
-    (λ row at. placed_put tables.runs row.number _ (off_purged row (tested tables job (is_in_state Queued) follow row at) (row-among IsPlacedRow tables job row placed at)) placed)
+placed-behind layout tables event deck accepted follow placed = by-run-cases ArePlaced layout tables event deck refl refl follow (placed-cases layout tables event deck accepted placed)
 
 -- ---- the running steps
 

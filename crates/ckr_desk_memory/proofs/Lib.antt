@@ -18,6 +18,8 @@ pub use Rattle.ckr_desk_plans.proofs.EntryModels
 pub mod EntrySizes
 pub mod Checkpoints
 pub mod CheckpointParts
+pub mod EventRows
+pub mod EventCases
 pub mod Extents
 pub mod Queue
 pub mod Replays

@@ -19,7 +19,7 @@ use Rattle.ckr_meaning.specs.declared.place.Place.TheVariants.{Within}
 use Rattle.ckr_volumes.specs.declared.layout.Layout.{Layout}
 use Rattle.ckr_volumes.specs.Layouts.{StandsIn}
 use Rattle.ckr_desk_plans.specs.Model.Commit.{output_names}
-use Rattle.ckr_points.specs.Follows.{follows, is_rewrite, is_running, is_update, lengths_follow, of_step, own_step}
+use Rattle.ckr_points.specs.Follows.{follows, is_rewrite, is_update, own_step}
 use Rattle.ckr_points.specs.Payload.{is_formed_step}
 use Rattle.ckr_points.specs.Restart.{after_event, by_step, place_of, step_in}
 use Rattle.ckr_points.specs.Rows.{RunRow, TableSet, TablesModel, cut_set, run_of}
@@ -34,8 +34,8 @@ use Rattle.ckr_desk_memory.proofs.Holders.Names.{step-formed}
 use Rattle.ckr_desk_memory.specs.Invariant.{IsAcceptedRow}
 use Rattle.ckr_desk_memory.specs.Rewrite.{HasPlaceFor, HasRecordPlace, updated_by, updated_in}
 use Rattle.ckr_desk_memory.proofs.Masters.{by-role}
-use Rattle.ckr_desk_memory.proofs.Queue.{run-there, step-there}
 use Rattle.ckr_desk_memory.proofs.Starts.Steps.{row-among}
+use Rattle.ckr_desk_memory.proofs.EventRows.{by-rewritten}
 
 -- ---- a data set keeps its space and its record length
 
@@ -165,9 +165,6 @@ module _ (layout : Layout) (tables : TablesModel) (numbered : AreNumbered 1 tabl
 pub place-behind : (layout : Layout) (tables : TablesModel) → AreNumbered 1 tables.runs → AllByRecursion IsAcceptedRow tables.runs → AreLaidOut layout tables.sets → (event : Event) (deck : Option Job) → follows layout tables event deck ≡ true
     → HasRecordPlace event (after_event event deck tables)
 place-behind layout tables numbered rows laid (Rewritten job taken writes lengths place image) deck follow =
-    let there = run-there tables job (λ row. is_running row && lengths_follow tables row lengths.items && of_step row (is_rewrite tables place image row)) follow in
-    let asked = and-second (is_running there.0 && lengths_follow tables there.0 lengths.items) (of_step there.0 (is_rewrite tables place image there.0)) there.2 in
-    let owned = step-there (own_step there.0) (is_rewrite tables place image there.0) asked in
-    rewritten-place layout tables numbered rows laid job taken writes place lengths image deck there.0 owned.0 there.1 owned.1
-    (sym (ap (λ (o : Option OwnedStep). option_map_or (is_rewrite tables place image there.0) o false) owned.1) ∙ asked)
+    by-rewritten (λ after. HasRecordPlace (Rewritten job taken writes lengths place image) (after_event (Rewritten job taken writes lengths place image) deck tables)) layout tables job deck taken writes place lengths image follow
+    (λ row owned its. rewritten-place layout tables numbered rows laid job taken writes place lengths image deck row owned its.at.row_at its.at.found its.rewrite)
 place-behind layout tables numbered rows laid _ deck follow = tt

@@ -28,7 +28,7 @@ ghost use Rattle.ckr_volumes.specs.declared.layout.Layout.{Layout as LayoutOfDis
 use crate::found_run::first_on;
 use crate::lines::is_on;
 use crate::served::{enter, serve};
-use crate::start::{start_again, start_prepared};
+use crate::start::{start_again, start_step};
 use crate::{Jobs, Prepared, RunningStep, StepPoint};
 use ckr_base::DsName;
 use ckr_desk_plans::place_of;
@@ -54,15 +54,15 @@ fn queue_run(queue: &mut Queue, number: u32, uses: Uses)
 }
 
 /// The queue goes on by an event that follows, by the tables behind it: a run that is restarted is selected where it is on an initiator. The
-/// uses are those of a deck that is submitted, and there is room for it.
-fn keep_queue(queue: &mut Queue, event: &Event, uses: Option<Uses>, tables: &Tables)
+/// uses are those of a deck that is submitted, which the queue takes, and there is room for it.
+fn keep_queue(queue: &mut Queue, event: &Event, uses: &mut Option<Uses>, tables: &Tables)
     requires may { MayQueue event.now queue.old.entries }
     requires room { HasQueueRoom event.now queue.old.room }
-    ensures { (deck : Option JobOfDeck) → HasUses event.now deck uses → queue.new.entries ≡ queue_after tables.now.desk event.now deck queue.old.entries }
+    ensures { (deck : Option JobOfDeck) → HasUses event.now deck uses.old → queue.new.entries ≡ queue_after tables.now.desk event.now deck queue.old.entries }
 {
     match event {
         Event::Submitted { job, .. } => {
-            if let Some(uses) = uses {
+            if let Some(uses) = uses.take() {
                 queue_run(queue, *job, uses);
             }
         }
@@ -126,12 +126,12 @@ fn end_of(place: u32, bytes: u32) -> u64
 fn restart(
     job: u32,
     checkpoint: bool,
-    again: Option<RunningStep>,
+    again: &mut Option<RunningStep>,
     tables: &Tables,
     running: &mut Vec<RunningStep>,
 )
-    requires { checkpoint ≡ true → MayGoBack job tables.now.desk again (vec_capacity running.old - vec_len running.old) }
-    ensures back { checkpoint ≡ true → (point : Option PointView) → HasAgain point tables.now.desk job again → StepGoesBack point job tables.now.desk (map step_seen running.old.items) (map step_seen running.new.items) }
+    requires { checkpoint ≡ true → MayGoBack job tables.now.desk again.old (vec_capacity running.old - vec_len running.old) }
+    ensures back { checkpoint ≡ true → (point : Option PointView) → HasAgain point tables.now.desk job again.old → StepGoesBack point job tables.now.desk (map step_seen running.old.items) (map step_seen running.new.items) }
     ensures start { checkpoint ≡ false → map step_seen running.new.items ≡ without_run job (map step_seen running.old.items) }
 {
     if checkpoint {
@@ -146,12 +146,12 @@ fn go_over(
     job: u32,
     earlier: u32,
     checkpoint: bool,
-    taken: Option<RunningStep>,
+    taken: &mut Option<RunningStep>,
     tables: &Tables,
     running: &mut Vec<RunningStep>,
 )
-    requires { 0 < earlier → checkpoint ≡ true → MayGoBack job tables.now.desk taken (vec_capacity running.old - vec_len running.old) }
-    ensures over { 0 < earlier → checkpoint ≡ true → (point : Option PointView) → HasAgain point tables.now.desk job taken → StepGoesBack point job tables.now.desk (map step_seen running.old.items) (map step_seen running.new.items) }
+    requires { 0 < earlier → checkpoint ≡ true → MayGoBack job tables.now.desk taken.old (vec_capacity running.old - vec_len running.old) }
+    ensures over { 0 < earlier → checkpoint ≡ true → (point : Option PointView) → HasAgain point tables.now.desk job taken.old → StepGoesBack point job tables.now.desk (map step_seen running.old.items) (map step_seen running.new.items) }
     ensures alone { earlier ≡ 0 → running.new.items ≡ running.old.items }
     ensures start { checkpoint ≡ false → running.new.items ≡ running.old.items }
 {
@@ -167,13 +167,13 @@ fn go_over(
 /// whose entry was written, and a cancel of the step that cancels.
 fn keep_running(
     event: &Event,
-    begun: Option<RunningStep>,
+    begun: &mut Option<RunningStep>,
     tables: &Tables,
     running: &mut Vec<RunningStep>,
 )
-    requires may { MayRun event.now tables.now.desk begun (vec_capacity running.old - vec_len running.old) }
+    requires may { MayRun event.now tables.now.desk begun.old (vec_capacity running.old - vec_len running.old) }
     requires counted { AllByRecursion HasCounts (map step_seen running.old.items) }
-    ensures { (points : List PointView) → IsStartedFrom event.now tables.now.desk points begun → GoesOn event.now tables.now.desk points (map step_seen running.old.items) (map step_seen running.new.items) }
+    ensures { (points : List PointView) → IsStartedFrom event.now tables.now.desk points begun.old → GoesOn event.now tables.now.desk points (map step_seen running.old.items) (map step_seen running.new.items) }
 {
     match event {
         Event::Selected {
@@ -182,7 +182,7 @@ fn keep_running(
             id,
             ..
         } => go_over(*job, *earlier, id.is_some(), begun, tables, running),
-        Event::Started { job, step, .. } => start_prepared(*job, *step, begun, tables, running),
+        Event::Started { job, step, .. } => start_step(*job, *step, begun, tables, running),
         Event::Restarted {
             job,
             checkpoint,
@@ -288,7 +288,7 @@ impl Jobs {
     /// Goes on by an event that follows, with the memory that `prepare` took for it. A deck is given exactly where the event is Submitted
     /// and its cards are a deck, and it is that deck, which was accepted. It takes no memory, and doesn't fail. A record that the event tells has its
     /// place then (this project's profile).
-    pub fn keep(&mut self, event: &Event, deck: Option<Rc<Job>>, prepared: Prepared)
+    pub fn keep(&mut self, event: &Event, deck: Option<Rc<Job>>, mut prepared: Prepared)
         requires follows { MayGoOn self.old event.now (option_map rc_value deck) }
         requires deck { MaySubmit event.now (option_map rc_value deck) }
         requires accepted { IsAnyAccepted event.now (option_map rc_value deck) }
@@ -306,14 +306,14 @@ impl Jobs {
             → LeavesLeft event.now self.old.failed → AreLeft self.new }
     {
         self.go_on(event, deck, prepared.uses);
-        keep_running(event, prepared.step, &self.tables, &mut self.running);
+        keep_running(event, &mut prepared.step, &self.tables, &mut self.running);
         keep_failed(&mut self.failed, event);
         keep_points(&mut self.points, event, self.running.as_slice());
     }
 
     /// The tables go on by an event that follows, and the queue with them. There is room for the event, and the uses are those
     /// of the deck that it submits; the deck of a run that is selected to continue another one may do so. It takes no memory, and doesn't fail.
-    pub(crate) fn go_on(&mut self, event: &Event, deck: Option<Rc<Job>>, uses: Option<Uses>)
+    pub(crate) fn go_on(&mut self, event: &Event, deck: Option<Rc<Job>>, mut uses: Option<Uses>)
         requires continues { MayContinue event.now self.old.tables.desk }
         requires follows { MayFollow self.old.tables.desk event.now (option_map rc_value deck) }
         requires deck { MaySubmit event.now (option_map rc_value deck) }
@@ -331,6 +331,6 @@ impl Jobs {
         ensures few { length self.old.tables.desk.runs ≤ 9999999 }
     {
         self.tables.apply(event, deck);
-        keep_queue(&mut self.queue, event, uses, &self.tables);
+        keep_queue(&mut self.queue, event, &mut uses, &self.tables);
     }
 }

@@ -1,10 +1,10 @@
 //! A step that starts, with its data sets.
-ghost use Rattle.std.specs.Prelude.{◌≡◌, ◌∷◌, ◌+◌, ◌-◌, ◌<◌, ◌≤◌, if◌then◌else◌, Option, None, Some, length, map, vec_len, vec_capacity};
+ghost use Rattle.std.specs.Prelude.{◌≡◌, ◌∷◌, ◌+◌, ◌-◌, ◌<◌, ◌≤◌, if◌then◌else◌, IfSome, Option, None, Some, length, map, vec_len, vec_capacity};
 ghost use Rattle.std.specs.List.{AllByRecursion};
 ghost use Rattle.ckr_desk_memory.specs.Invariant.{IsAcceptedRow};
 ghost use Rattle.ckr_desk_memory.specs.Parts.{step_seen};
 ghost use Rattle.ckr_desk_memory.specs.Preparation.{HasAgain, IsEmpty};
-ghost use Rattle.ckr_desk_memory.specs.RunningSteps.{may_go_back, MayGoBack, MayStartStep, StepGoesBack, StepStarts};
+ghost use Rattle.ckr_desk_memory.specs.RunningSteps.{may_go_back, MayGoBack, StepGoesBack};
 ghost use Rattle.ckr_desk_memory.specs.Start.{has_all, has_any, has_sets, with_all_taken, with_any_taken, with_taken, AllFit, HasNew};
 ghost use Rattle.ckr_desk_memory.specs.View.{PointView as PointOfStep};
 ghost use Rattle.ckr_meaning.specs.EffectiveJob.{name_of, OwnedStep as OwnedStepOfRun};
@@ -14,6 +14,7 @@ ghost use Rattle.ckr_points.specs.Rows.{holding_of, run_of, step_of_run, RunRow 
 ghost use Rattle.ckr_points_tables.specs.RunJobs.{own_of};
 ghost use Rattle.ckr_points_tables.specs.View.{seen_by};
 ghost use Rattle.ckr_desk_turn.specs.Queue.{AreNumbered};
+ghost use Rattle.ckr_desk_plans.specs.declared.running_step.RunningStep.{RunningStep as PreparedStep};
 
 use crate::RunningStep;
 use crate::event::leave;
@@ -83,22 +84,22 @@ pub(crate) fn put_first(running: &mut Vec<RunningStep>, on: RunningStep)
     }
 }
 
-/// A step of a run is running: it takes its data sets from the tables, and stands before the others; the steps of its run that were
-/// running go. There is room for it.
-fn start_step(
+/// A step of a run is running, as it was prepared: it takes its data sets from the tables, and stands before the others; the steps of its run
+/// that were running go. There is room for it.
+pub(crate) fn start_step(
     job: u32,
     step: u8,
-    mut on: RunningStep,
+    begun: &mut Option<RunningStep>,
     tables: &Tables,
     running: &mut Vec<RunningStep>,
 )
     requires job { job ≤ 9999999 }
-    requires empty { IsEmpty job on }
+    requires empty { IfSome begun.old (IsEmpty job) }
     requires rows { AllByRecursion IsAcceptedRow tables.now.desk.runs }
     requires numbered { AreNumbered 1 tables.now.desk.runs }
     requires fit { AllFit (seen_by holding_of tables.now.desk.sets) }
     requires room { vec_len running.old < vec_capacity running.old }
-    ensures { (row : RowOfRun) (owned : OwnedStepOfRun) → run_of tables.now.desk job ≡ Some row → step_of_run row step ≡ Some owned → HasNew job row.job.root owned on.step tables.now.desk.sets (map step_seen running.old.items) (map step_seen running.new.items) }
+    ensures { (on : PreparedStep) (row : RowOfRun) (owned : OwnedStepOfRun) → begun.old ≡ Some on → run_of tables.now.desk job ≡ Some row → step_of_run row step ≡ Some owned → HasNew job row.job.root owned on.step tables.now.desk.sets (map step_seen running.old.items) (map step_seen running.new.items) }
 {
     let _lines = tables.runs();
     let Some(table) = tables.run(job) else {
@@ -107,25 +108,12 @@ fn start_step(
     let Some(own) = step_at(&table.job, job, step) else {
         return;
     };
+    let Some(mut on) = begun.take() else {
+        return;
+    };
     take_sets(table.job.root(), &own, tables.library(), &mut on.sets);
     leave(running, job);
     put_first(running, on);
-}
-
-/// A step of a run starts, as it was prepared.
-pub(crate) fn start_prepared(
-    job: u32,
-    step: u8,
-    begun: Option<RunningStep>,
-    tables: &Tables,
-    running: &mut Vec<RunningStep>,
-)
-    requires { MayStartStep job step tables.now.desk begun (vec_capacity running.old - vec_len running.old) }
-    ensures { StepStarts job step tables.now.desk (map step_seen running.old.items) (map step_seen running.new.items) }
-{
-    if let Some(on) = begun {
-        start_step(job, step, on, tables, running);
-    }
 }
 
 /// Whether a library has the data set of a DD, where it names one.
@@ -183,19 +171,19 @@ fn step_there(tables: &Tables, job: u32) -> Option<u8>
 /// other step of it is running.
 pub(crate) fn start_again(
     job: u32,
-    again: Option<RunningStep>,
+    again: &mut Option<RunningStep>,
     tables: &Tables,
     running: &mut Vec<RunningStep>,
 )
-    requires { MayGoBack job tables.now.desk again (vec_capacity running.old - vec_len running.old) }
-    ensures { (point : Option PointOfStep) → HasAgain point tables.now.desk job again → StepGoesBack point job tables.now.desk (map step_seen running.old.items) (map step_seen running.new.items) }
+    requires { MayGoBack job tables.now.desk again.old (vec_capacity running.old - vec_len running.old) }
+    ensures { (point : Option PointOfStep) → HasAgain point tables.now.desk job again.old → StepGoesBack point job tables.now.desk (map step_seen running.old.items) (map step_seen running.new.items) }
 {
-    let Some(on) = again else {
+    if again.is_none() {
         leave(running, job);
         return;
-    };
+    }
     match step_there(tables, job) {
-        Some(step) => start_step(job, step, on, tables, running),
+        Some(step) => start_step(job, step, again, tables, running),
         None => leave(running, job),
     }
 }

@@ -6,7 +6,6 @@ pub use Rattle.ckr_desk_memory.proofs.Holders.OwnUnits
 pub use Rattle.ckr_desk_memory.proofs.Holders.Rooms
 pub use Rattle.ckr_desk_memory.proofs.Holders.Units
 pub use Rattle.ckr_desk_memory.proofs.Masters
-pub use Rattle.ckr_desk_memory.proofs.Queue
 pub use Rattle.ckr_desk_memory.proofs.Replays
 pub use Rattle.ckr_desk_memory.proofs.RewriteCounts
 pub use Rattle.ckr_desk_memory.proofs.RunNumbers

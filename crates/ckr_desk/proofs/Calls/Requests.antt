@@ -6,7 +6,6 @@ use Rattle.ckr_book.specs.Book.{room_of}
 use Rattle.ckr_events.specs.declared.event.Event.TheVariants.{Purged, Released}
 use Rattle.ckr_events.specs.Event.{IsEvent}
 use Rattle.ckr_jcl.specs.declared.deck.Job.{Job}
-use Rattle.ckr_desk_refines.proofs.Memory.Queue.{run-there}
 use Rattle.ckr_outside.specs.Disk.{EachSince}
 use Rattle.ckr_outside.specs.Moments.{in_other_words, started}
 use Rattle.ckr_points.specs.declared.run.RunState.{RunState}
@@ -14,6 +13,7 @@ use Rattle.ckr_points.specs.declared.run.RunState.TheVariants.{Denied, Ended, He
 use Rattle.ckr_points.specs.Follows.{is_in_state, state_number}
 use Rattle.ckr_points.specs.Restart.{Decked}
 use Rattle.ckr_points_invariant.proofs.Holders.Rows.{queued-is}
+use Rattle.ckr_points_invariant.proofs.WaitingRuns.{tested-run}
 use Rattle.ckr_desk_refines.specs.Moves.{HasSameRecords}
 use Rattle.ckr_desk_store.specs.OpenImages.{event_records}
 use Rattle.ckr_desk_store.specs.State.{IsSound, StoreView}
@@ -243,8 +243,8 @@ module _ {D : Type 0} (told : Type 0) (content : D → List ℕ) (may_leave : D 
   purged : (job : ℕ) → IsEvent (Purged job) → (queued : Bool) → is_queued old.jobs.tables.desk job ≡ queued → IsCalledSo (cond queued (Some (Purged job, None)) None)
   purged job is_event false is = tt
   purged job is_event true is =
-      let there = run-there old.jobs.tables.desk job (is_in_state Queued) is in
-      called-purged told content may_leave size old trusted job there.0 there.1 (queued-is there.0.state there.2) is_event
+      tested-run old.jobs.tables.desk job (is_in_state Queued) is
+      (λ row at queued. called-purged told content may_leave size old trusted job row at (queued-is row.state queued) is_event)
 
   pub purge-called : (job : ℕ) → IsEvent (Purged job) → IsCalledSo (purge_call old.jobs.tables.desk job)
   purge-called job is_event = purged job is_event (is_queued old.jobs.tables.desk job) refl
@@ -254,8 +254,8 @@ module _ {D : Type 0} (told : Type 0) (content : D → List ℕ) (may_leave : D 
   released : (job : ℕ) → IsEvent (Released job) → (held : Bool) → is_held_run old.jobs.tables.desk job ≡ held → IsCalledSo (cond held (Some (Released job, None)) None)
   released job is_event false is = tt
   released job is_event true is =
-      let there = run-there old.jobs.tables.desk job (is_in_state Held) is in
-      called-released told content may_leave size old trusted job there.0 there.1 (held-is there.0.state there.2) is_event
+      tested-run old.jobs.tables.desk job (is_in_state Held) is
+      (λ row at held. called-released told content may_leave size old trusted job row at (held-is row.state held) is_event)
 
   pub release-called : (job : ℕ) → IsEvent (Released job) → IsCalledSo (release_call old.jobs.tables.desk job)
   release-called job is_event = released job is_event (is_held_run old.jobs.tables.desk job) refl

@@ -1,120 +1,71 @@
 -- By each event that follows the row of its run alone changes, and what the run reaches: so the holders stay apart.
-use Rattle.std.proofs.Common.{◌≡◌, ◌≢◌, ◌==◌, ℕ, zero, suc, true, false, ◌&&◌, ◌||◌, refl, ap, sym, ◌∙◌, Option, Some, None}
-use Rattle.std.specs.Prelude.{nat_eq}
+use Rattle.std.proofs.Common.{◌≡◌, ◌≢◌, ℕ, zero, suc, true, false, refl, ap, sym, ◌∙◌, Option, Some, None}
 use Rattle.std.specs.List.{AllByRecursion}
-use Rattle.std.specs.Option.{is_some, option_eq, option_map_or}
-use Rattle.std.proofs.lemmas.Bool.{false≢true}
 use Rattle.ckr_points_invariant.specs.EarlierRuns.{continues}
-use Rattle.ckr_base.proofs.Bools.{and-first, and-second}
-use Rattle.ckr_base.proofs.Options.{option_map_or-true, some-not-none}
+use Rattle.ckr_base.proofs.Options.{some-not-none}
 use Rattle.ckr_events.specs.Jobs.{job_of}
 use Rattle.ckr_events.specs.declared.event.Event.{Event}
-use Rattle.ckr_events.specs.declared.event.Event.TheVariants.{Cancelled, Checkpointed, Denied, Ended, Held, Purged, Released, Restarted, Rewritten, Selected, Started, StepEnded, Submitted}
+use Rattle.ckr_events.specs.declared.event.Event.TheVariants.{Selected, Submitted}
 use Rattle.ckr_jcl.specs.declared.deck.Job.{Job}
-use Rattle.ckr_library.specs.declared.sets.Kept.{Kept}
-use Rattle.ckr_points.specs.declared.run.RunState.TheVariants.{Queued, Held as HeldRun, Released as ReleasedRun, Denied as DeniedRun, Purged as PurgedRun}
-use Rattle.ckr_points.specs.Follows.{follows, is_checkpoint, is_free, is_in_state, is_rewrite, is_running, lengths_follow, may_restart_again, of_step, own_step, selected_follows, started_follows, ended_follows}
+use Rattle.ckr_points.specs.Follows.{follows}
 use Rattle.ckr_points.specs.Office.{is_holder}
-use Rattle.ckr_points.specs.Restart.{after_ended, after_event, after_restarted, by_step, place_of, step_in}
-use Rattle.ckr_points.specs.Rows.{TablesModel, no_tables, run_of, step_of_run, with_run}
-use Rattle.ckr_points.specs.Tables.{after_cancelled, after_checkpointed, after_held, after_rewritten, after_selected, after_started, after_step_ended}
-use Rattle.ckr_points_invariant.proofs.Holders.Rows.{run-other}
-use Rattle.ckr_points_invariant.proofs.WaitingRuns.{tested-run}
+use Rattle.ckr_points.specs.Restart.{after_event}
+use Rattle.ckr_points.specs.Rows.{TablesModel, no_tables, run_of, RunRow}
+use Rattle.ckr_points_invariant.proofs.Holders.Rows.{run-other, holder-ended}
 use Rattle.ckr_points_tables.specs.Invariant.{MaySubmit, is_submission}
 use Rattle.ckr_volumes.specs.declared.layout.Layout.{Layout}
 use Rattle.ckr_desk_memory.proofs.Holders.Continuations.{continued-goes}
-use Rattle.ckr_desk_memory.proofs.Holders.Moves.{RowGoesOn, RunGoesOn, by-own, by-row, holders-go, run-goes}
+use Rattle.ckr_desk_memory.proofs.Holders.Moves.{RowGoesOn, RunGoesOn, holders-go, run-goes}
 use Rattle.ckr_desk_memory.proofs.Holders.Submissions.{holders-submitted}
 use Rattle.ckr_desk_memory.proofs.Continuations.{by-continuation}
-use Rattle.ckr_desk_memory.specs.Invariant.{IsAcceptedRow, IsAnyAccepted, IsPlacedRow}
-use Rattle.ckr_desk_memory.proofs.Invariant.{hand-in_step, restarts-in_step}
+use Rattle.ckr_desk_memory.specs.Invariant.{IsAcceptedRow, IsAnyAccepted, IsPlacedRow, is_in_step}
+use Rattle.ckr_desk_memory.proofs.Invariant.{hand-in_step, in_step-holds, in_step-within}
 use Rattle.ckr_desk_memory.proofs.Queue.{held-is}
 use Rattle.ckr_desk_memory.proofs.Starts.Steps.{row-among}
 use Rattle.ckr_desk_turn.specs.Queue.{AreNumbered}
 use Rattle.ckr_desk_turn.proofs.Queue.Events.{run_number}
 use Rattle.ckr_desk_memory.specs.Holders.{AreHolders}
 use Rattle.ckr_desk_memory.proofs.Holders.RowTests.{running-holds}
-use Rattle.ckr_desk_memory.proofs.Holders.RunEvents.{cancelled, denied, ended, purged, released, restarts, selected, started}
-use Rattle.ckr_desk_memory.proofs.Holders.StepEvents.{checkpointed, held, rewritten, step_ended}
+use Rattle.ckr_desk_memory.proofs.Holders.RunEvents.{cancelled, coded, completed, gone, refused, released, selected, started, unmoved}
+use Rattle.ckr_desk_memory.proofs.Holders.StepEvents.{checkpointed, goes_back, held, restarted, rewritten, step_ended}
+use Rattle.ckr_desk_memory.proofs.EventCases.{IsHand, RunCases, by-run-cases}
+use Rattle.ckr_points_invariant.proofs.Steps.Events.{on-holds}
 
 -- ---- each event
 
-goes-in : (layout : Layout) (tables : TablesModel) → AllByRecursion IsAcceptedRow tables.runs → AreNumbered 1 tables.runs → AllByRecursion IsPlacedRow tables.runs → (event : Event) (deck : Option Job) → continues event ≡ false → is_submission event ≡ false → follows layout tables event deck ≡ true → RunGoesOn tables (after_event event deck tables) (job_of event)
-goes-in layout tables rows numbered placed (Submitted job cards) deck plain other follow = absurd (false≢true (sym other))
-goes-in layout tables rows numbered placed (Selected job initiator zero step id) deck plain other follow =
-    tested-run tables job (selected_follows layout tables initiator zero step id) follow
-    (λ row at passes.
-    by-row (λ after. RunGoesOn tables after job) tables job (λ row. after_selected row initiator tables) row at
-    (selected tables rows numbered placed job row at layout initiator step id passes))
-goes-in layout tables rows numbered placed (Selected job initiator (suc before) step id) deck plain other follow = absurd (false≢true (sym plain))
-goes-in layout tables rows numbered placed (Denied job rule name) deck plain other follow =
-    tested-run tables job (λ row. is_in_state Queued row && is_some row.deck.restart) follow
-    (λ row at passes.
-    by-row (λ after. RunGoesOn tables after job) tables job (λ row. with_run (record row { state = DeniedRun }) tables) row at
-    (denied tables rows numbered placed job row at (and-first (is_in_state Queued row) _ passes)))
-goes-in layout tables rows numbered placed (Started job step items) deck plain other follow =
-    tested-run tables job (started_follows layout tables step items.items) follow
-    (λ row at passes.
-    by-row (λ after. RunGoesOn tables after job) tables job (λ row. option_map_or (λ owned. after_started row owned step items.items tables) (step_of_run row step) tables) row at
-    (started tables rows numbered placed job row at layout step items.items passes))
-goes-in layout tables rows numbered placed (Rewritten job taken writes lengths place image) deck plain other follow =
-    tested-run tables job (λ row. is_running row && lengths_follow tables row lengths.items && of_step row (is_rewrite tables place image row)) follow
-    (λ row at passes.
-    option_map_or-true (own_step row) (is_rewrite tables place image row) (and-second (is_running row && lengths_follow tables row lengths.items) _ passes)
-    (λ owned found rewrites.
-    by-row (λ after. RunGoesOn tables after job) tables job (λ row. by_step (λ owned step. after_rewritten row owned step writes lengths.items tables) row tables) row at
-    (by-own (λ after. RunGoesOn tables after job) tables (λ owned step. after_rewritten row owned step writes lengths.items tables) row owned found
-    (rewritten tables rows numbered placed job row at owned found place image writes lengths.items (and-first (is_running row) _ (and-first (is_running row && lengths_follow tables row lengths.items) _ passes)) rewrites))))
-goes-in layout tables rows numbered placed (Checkpointed job id taken writes lengths place bytes) deck plain other follow =
-    tested-run tables job (λ row. is_running row && lengths_follow tables row lengths.items && of_step row (is_checkpoint tables id lengths.items place bytes row)) follow
-    (λ row at passes.
-    option_map_or-true (own_step row) (is_checkpoint tables id lengths.items place bytes row) (and-second (is_running row && lengths_follow tables row lengths.items) _ passes)
-    (λ owned found checks.
-    let kept : Kept = record { id = id; run = job; place = place; bytes = bytes } in
-    by-row (λ after. RunGoesOn tables after job) tables job (λ row. by_step (λ owned step. after_checkpointed row owned step kept taken writes lengths.items tables) row tables) row at
-    (by-own (λ after. RunGoesOn tables after job) tables (λ owned step. after_checkpointed row owned step kept taken writes lengths.items tables) row owned found
-    (checkpointed tables rows numbered placed job row at owned found kept place bytes taken writes id lengths.items (and-first (is_running row) _ (and-first (is_running row && lengths_follow tables row lengths.items) _ passes)) checks refl refl))))
-goes-in layout tables rows numbered placed (Cancelled job) deck plain other follow =
-    tested-run tables job is_running follow
-    (λ row at passes. by-row (λ after. RunGoesOn tables after job) tables job (λ row. after_cancelled row tables) row at (cancelled tables rows numbered placed job row at (running-holds row passes)))
-goes-in layout tables rows numbered placed (StepEnded job step rc writes lengths) deck plain other follow =
-    tested-run tables job (λ row. is_running row && step_in (place_of row) == step && lengths_follow tables row lengths.items) follow
-    (λ row at passes.
-    option_map_or-true (own_step row) _ (and-second (is_running row && step_in (place_of row) == step) (lengths_follow tables row lengths.items) passes)
-    (λ owned found are.
-    by-row (λ after. RunGoesOn tables after job) tables job (λ row. by_step (λ owned step. after_step_ended row owned step rc writes lengths.items tables) row tables) row at
-    (by-own (λ after. RunGoesOn tables after job) tables (λ owned step. after_step_ended row owned step rc writes lengths.items tables) row owned found
-    (step_ended tables rows numbered placed job row at owned found rc writes lengths.items (and-first (is_running row) _ (and-first (is_running row && step_in (place_of row) == step) _ passes))))))
-goes-in layout tables rows numbered placed (Restarted job initiator code checkpoint) deck plain other follow =
-    tested-run tables job (λ row. (is_running row && option_eq nat_eq row.initiator (Some initiator) || is_in_state ReleasedRun row && is_free layout tables initiator) && may_restart_again checkpoint row) follow
-    (λ row at passes.
-    by-row (λ after. RunGoesOn tables after job) tables job (λ row. by_step (λ owned step. after_restarted row owned step initiator checkpoint tables) row tables) row at
-    (restarts tables rows numbered placed job row at initiator checkpoint (restarts-in_step layout tables initiator checkpoint row (row-among IsPlacedRow tables job row placed at) passes)))
-goes-in layout tables rows numbered placed (Held job code writes lengths) deck plain other follow =
-    tested-run tables job (λ row. (is_running row || is_in_state ReleasedRun row) && lengths_follow tables row lengths.items) follow
-    (λ row at passes.
-    option_map_or-true (own_step row) _ (and-second (is_running row || is_in_state ReleasedRun row) (lengths_follow tables row lengths.items) passes)
-    (λ owned found are.
-    by-row (λ after. RunGoesOn tables after job) tables job (λ row. by_step (λ owned step. after_held row owned step code writes lengths.items tables) row tables) row at
-    (by-own (λ after. RunGoesOn tables after job) tables (λ owned step. after_held row owned step code writes lengths.items tables) row owned found
-    (held tables rows numbered placed job row at owned found code writes lengths.items
-    (hand-in_step row (and-first (is_running row || is_in_state ReleasedRun row) _ passes) (row-among IsPlacedRow tables job row placed at))))))
-goes-in layout tables rows numbered placed (Released job) deck plain other follow =
-    tested-run tables job (is_in_state HeldRun) follow
-    (λ row at passes.
-    by-row (λ after. RunGoesOn tables after job) tables job (λ row. with_run (record row { state = ReleasedRun }) tables) row at
-    (released tables rows numbered placed job row at (ap is_holder (held-is row.state passes))))
-goes-in layout tables rows numbered placed (Ended job ending) deck plain other follow =
-    tested-run tables job (λ row. ended_follows tables row ending) follow
-    (λ row at passes. by-row (λ after. RunGoesOn tables after job) tables job (λ row. after_ended row ending tables) row at (ended tables rows numbered placed job row at ending passes))
-goes-in layout tables rows numbered placed (Purged job) deck plain other follow =
-    tested-run tables job (is_in_state Queued) follow
-    (λ row at passes. by-row (λ after. RunGoesOn tables after job) tables job (λ row. with_run (record row { state = PurgedRun }) tables) row at (purged tables rows numbered placed job row at passes))
+module _ (layout : Layout) (tables : TablesModel) (rows : AllByRecursion IsAcceptedRow tables.runs) (numbered : AreNumbered 1 tables.runs) (placed : AllByRecursion IsPlacedRow tables.runs) (event : Event) where
+  abbrev job : ℕ
+  job = job_of event
+
+  inside : (row : RunRow) → run_of tables job ≡ Some row → IsHand row → is_in_step row ≡ true
+  inside row at hand = hand-in_step row hand (row-among IsPlacedRow tables job row placed at)
+
+  goes-cases : RunCases layout tables event (λ after. RunGoesOn tables after job)
+  goes-cases = record {
+    selected = λ initiator row its. selected tables rows numbered placed job row its.row_at initiator its.queued its.holds;
+    gone = λ row state at queued free over. gone tables rows numbered placed job row at state queued free;
+    started = λ step items row owned its. started tables rows numbered placed job row its.row_at layout step items owned its;
+    rewritten = λ writes place lengths image row owned its. rewritten tables rows numbered placed job row its.at.row_at owned its.at.found place image writes lengths its.runs its.rewrite;
+    checkpointed = λ taken writes place bytes id lengths row owned its.
+        checkpointed tables rows numbered placed job row its.at.row_at owned its.at.found (record { id = id; run = job; place = place; bytes = bytes }) place bytes taken writes id lengths its.runs its.check refl refl;
+    withdrawn = λ row at runs. cancelled tables rows numbered placed job row at (running-holds row runs);
+    step_done = λ rc writes lengths row owned its. step_ended tables rows numbered placed job row its.at.row_at owned its.at.found rc writes lengths its.runs;
+    held = λ code writes lengths row owned with_code its. held tables rows numbered placed job row its.at.row_at owned its.at.found code writes lengths (inside row its.at.row_at its.hand);
+    released = λ row at held. released tables rows numbered placed job row at (ap is_holder (held-is row.state held));
+    restarted = λ initiator row owned point at hand found began.
+        restarted tables rows numbered placed job row at owned found initiator point began (in_step-holds row (inside row at hand)) (in_step-within row (inside row at hand));
+    goes_back = λ initiator row owned effect entry at hand found now kept. goes_back tables rows numbered placed job row at owned found initiator effect entry now kept (inside row at hand);
+    unmoved = λ row at hand. unmoved tables rows numbered placed job row at (holder-ended row.state (in_step-holds row (inside row at hand)));
+    ended = λ row its. completed tables rows numbered placed job row its.row_at (on-holds row.state its.on);
+    coded = λ writes lengths row owned its.
+        coded tables rows numbered placed job row its.at.row_at owned its.at.found writes lengths (in_step-holds row (inside row its.at.row_at its.hand)) (in_step-within row (inside row its.at.row_at its.hand));
+    refused = λ row owned its. refused tables rows numbered placed job row its.row_at owned its.found (on-holds row.state its.on);
+  }
 
 -- by each event but a submission, and the selection of a run that continues another one, one run goes on
 pub goes-on : (layout : Layout) (tables : TablesModel) (event : Event) (deck : Option Job) → AllByRecursion IsAcceptedRow tables.runs → AreNumbered 1 tables.runs → AllByRecursion IsPlacedRow tables.runs → continues event ≡ false → is_submission event ≡ false → follows layout tables event deck ≡ true → RowGoesOn tables (after_event event deck tables) (job_of event)
 goes-on layout tables event deck rows numbered placed plain other follow =
-    run-goes tables (after_event event deck tables) (job_of event) rows numbered (goes-in layout tables rows numbered placed event deck plain other follow)
+    run-goes tables (after_event event deck tables) (job_of event) rows numbered (by-run-cases (λ after. RunGoesOn tables after (job_of event)) layout tables event deck other plain follow (goes-cases layout tables rows numbered placed event))
 
 -- ---- all events
 

@@ -1,31 +1,27 @@
 -- The runs that were running when the system failed stay within their steps, until they end.
 use Rattle.std.proofs.Common.{◌≡◌, ◌+◌, ◌==◌, ◌||◌, ℕ, suc, Bool, true, false, cond, not, ◌&&◌, List, [], ◌∷◌, filter, map, slice_get, refl, ap, sym, ◌∙◌, subst, Option, Some, None, arith}
 use Rattle.std.specs.List.{AllByRecursion}
-use Rattle.std.specs.Option.{is_none, is_some, option_map_or}
+use Rattle.std.specs.Option.{is_none, is_some}
 use Rattle.std.proofs.lemmas.Bool.{and_from, false≢true}
 use Rattle.ckr_base.proofs.Bools.{and-first, and-second}
 use Rattle.ckr_base.proofs.Numbers.{equal-false, equal-true, number-cases, one-plus}
-use Rattle.ckr_base.proofs.Options.{option_map_or-true, some-one}
+use Rattle.ckr_base.proofs.Options.{some-one}
 use Rattle.ckr_base.proofs.Sequences.{each-implies}
 use Rattle.ckr_events.specs.Jobs.{job_of}
 use Rattle.ckr_events.specs.declared.event.Event.{Event}
 use Rattle.ckr_events.specs.declared.event.Event.TheVariants.{Cancelled, Checkpointed, Denied, Ended, Held, Purged, Released, Restarted, Rewritten, Selected, Started, StepEnded, Submitted}
-use Rattle.ckr_events.specs.declared.event.Made.{Made}
 use Rattle.ckr_jcl.specs.declared.deck.Job.{Job}
-use Rattle.ckr_library.specs.declared.sets.Kept.{Kept}
 use Rattle.ckr_points.specs.declared.run.RunState.{RunState}
 use Rattle.ckr_points.specs.declared.run.RunState.TheVariants.{Queued, On, Held as HeldRun, Released as ReleasedRun, Ended as EndedRun, Denied as DeniedRun, Purged as PurgedRun}
-use Rattle.ckr_points.specs.Follows.{follows, is_checkpoint, is_free, is_in_state, is_rewrite, is_running, is_within, lengths_follow, may_hold, of_step, own_step, selected_follows, started_follows, state_number}
-use Rattle.ckr_points.specs.Restart.{after_event, by_step, place_of, step_in}
-use Rattle.ckr_points.specs.Rows.{RunRow, TablesModel, run_of, step_of_run}
-use Rattle.ckr_points.specs.Tables.{after_cancelled, after_checkpointed, after_rewritten, after_started, after_submitted}
-use Rattle.ckr_points_invariant.proofs.WaitingRuns.{tested-run}
+use Rattle.ckr_points.specs.Follows.{follows, is_in_state, is_running, is_within, state_number}
+use Rattle.ckr_points.specs.Restart.{after_event, place_of, step_in}
+use Rattle.ckr_points.specs.Rows.{RunRow, TablesModel, run_of, TableSet, with_run}
+use Rattle.ckr_points.specs.Tables.{after_checkpointed, after_rewritten, after_started, after_submitted}
 use Rattle.ckr_points_tables.specs.Invariant.{is_submission}
 use Rattle.ckr_volumes.specs.declared.layout.Layout.{Layout}
 use Rattle.ckr_desk_memory.proofs.Holders.Events.{others-stay}
-use Rattle.ckr_desk_memory.proofs.Holders.RowTests.{by-some}
 use Rattle.ckr_desk_memory.proofs.Holders.Submissions.{row-more}
-use Rattle.ckr_desk_memory.proofs.Holders.Moves.{by-own, by-row, row-as_is, row-next}
+use Rattle.ckr_desk_memory.proofs.Holders.Moves.{row-as_is, row-next}
 use Rattle.ckr_desk_memory.specs.EventChanges.{failed_in}
 use Rattle.ckr_desk_memory.specs.Invariant.{AreJobs, IsAcceptedRow, IsPlacedRow}
 use Rattle.ckr_desk_memory.specs.OwnSteps.{AreLeft, IsLeft, IsOther, LeavesLeft}
@@ -35,6 +31,8 @@ use Rattle.ckr_desk_turn.specs.Desk.{failed_behind, is_running as is_lodged, wit
 use Rattle.ckr_desk_turn.specs.Invariant.{is_on_one}
 use Rattle.ckr_desk_turn.specs.Queue.{AreNumbered}
 use Rattle.ckr_desk_turn.proofs.Queue.Events.{run_number}
+use Rattle.ckr_library.specs.NameMaps.{Named}
+use Rattle.ckr_desk_memory.proofs.EventRows.{by-cancelled, by-checkpointed, by-denied, by-purged, by-released, by-rewritten, by-started, row-selected}
 
 -- so is each of these
 abbrev LeftIn : TablesModel → FailedRun → Type 0
@@ -81,12 +79,25 @@ module _ (layout : Layout) (tables : TablesModel) (rows : AllByRecursion IsAccep
       let two : state_number row.state ≡ 2 = equal-true (state_number row.state) 2 (and-first (is_in_state On row) (is_within (place_of row)) (on_of job row at left)) in
       absurd (omega (arith, three, two))
 
+  -- a row that is running leaves its run so
+  still_left : (job : ℕ) (row next : RunRow) (sets : Named TableSet) → run_of tables job ≡ Some row → next.number ≡ row.number → is_running next ≡ true → IsLeft (with_run next (record tables { sets = sets })) job
+  still_left job row next sets at same runs = (next, (row-next tables tables job row next sets (row-as_is tables job row at) (same ∙ run_number tables job row numbered at)).now, runs)
+
+  -- within its step
+  on_still : (row : RunRow) → is_in_state On row ≡ true → (is_in_state On row && true) ≡ true
+  on_still row on = and_from (is_in_state On row) true on refl
+
+  runs_still : (row : RunRow) → is_running row ≡ true → (is_in_state On row && true) ≡ true
+  runs_still row runs = on_still row (and-first (is_in_state On row) (is_within (place_of row)) runs)
+
   -- a run whose event leaves it running, and the others
   one_left : (event : Event) (deck : Option Job) → is_submission event ≡ false → follows layout tables event deck ≡ true → (IsLeft tables (job_of event) → IsLeft (after_event event deck tables) (job_of event))
-      → (number : ℕ) → IsLeft tables number → IsLeft (after_event event deck tables) number
-  one_left event deck other follow own number left =
+      → (failed : List FailedRun) → AllByRecursion (LeftIn tables) failed → AllByRecursion (LeftIn (after_event event deck tables)) failed
+  one_left event deck other follow own failed all =
+      each-left tables (after_event event deck tables) failed
+      (λ number left.
       number-cases number (job_of event) (λ here. subst (IsLeft (after_event event deck tables)) (sym here) (own (subst (IsLeft tables) here left)))
-      (λ apart. (left.0, others-stay layout tables event deck rows numbered placed other follow number apart ∙ left.1, left.2))
+      (λ apart. (left.0, others-stay layout tables event deck rows numbered placed other follow number apart ∙ left.1, left.2))) all
 
   -- those of which the event isn't
   rest_left : (event : Event) (deck : Option Job) → is_submission event ≡ false → follows layout tables event deck ≡ true → (failed : List FailedRun) → AllByRecursion (IsOther (job_of event)) failed → AllByRecursion (LeftIn tables) failed
@@ -97,90 +108,43 @@ module _ (layout : Layout) (tables : TablesModel) (rows : AllByRecursion IsAccep
     rest_left event deck other follow rest apart.1 all.1,
   )
 
-  started_left : (job step : ℕ) (items : List Made) (row : RunRow) → run_of tables job ≡ Some row → started_follows layout tables step items row ≡ true → IsLeft (option_map_or (λ owned. after_started row owned step items tables) (step_of_run row step) tables) job
-  started_left job step items row at follow =
-      option_map_or-true (step_of_run row step) _ (and-second (is_in_state On row) _ follow)
-      (λ owned found passes.
-      by-some (λ after. IsLeft after job) (step_of_run row step) (λ owned. after_started row owned step items tables) tables owned found (
-        _,
-        (row-next tables tables job row _ (after_started row owned step items tables).sets (row-as_is tables job row at) (run_number tables job row numbered at)).now,
-        and_from (is_in_state On row) true (and-first (is_in_state On row) _ follow) refl,
-      ))
-
   left_on : (event : Event) (deck : Option Job) (failed : List FailedRun) → follows layout tables event deck ≡ true → LeavesLeft event failed → AllByRecursion (LeftIn tables) failed → AllByRecursion (LeftIn (after_event event deck tables)) (failed_behind event failed)
   left_on (Submitted job cards) None failed follow leaves all = all
   left_on (Submitted job cards) (Some deck) failed follow leaves all =
       each-left tables (after_submitted job deck tables) failed (λ number left. (left.0, row-more tables job deck number left.0 left.1, left.2)) all
   left_on (Selected job initiator earlier step id) deck failed follow leaves all =
-      each-left tables (after_event (Selected job initiator earlier step id) deck tables) failed
-      (one_left (Selected job initiator earlier step id) deck refl follow
-      (λ left.
-      tested-run tables job (selected_follows layout tables initiator earlier step id) follow
-      (λ row at passes.
-      waits job row at left
-      (and-first (is_in_state Queued row) (is_free layout tables initiator) (and-first (is_in_state Queued row && is_free layout tables initiator) (may_hold tables row) (and-first (is_in_state Queued row && is_free layout tables initiator && may_hold tables row) _ passes)))))) all
+      one_left (Selected job initiator earlier step id) deck refl follow (λ left. row-selected layout tables job deck initiator earlier step id follow (λ row its. waits job row its.row_at left its.queued)) failed all
   left_on (Denied job rule name) deck failed follow leaves all =
-      each-left tables (after_event (Denied job rule name) deck tables) failed
-      (one_left (Denied job rule name) deck refl follow
-      (λ left. tested-run tables job (λ row. is_in_state Queued row && is_some row.deck.restart) follow (λ row at passes. waits job row at left (and-first (is_in_state Queued row) _ passes)))) all
+      one_left (Denied job rule name) deck refl follow (λ left. by-denied (λ after. IsLeft after job) layout tables job deck rule name follow (λ row at queued. waits job row at left queued)) failed all
   left_on (Started job step items) deck failed follow leaves all =
-      each-left tables (after_event (Started job step items) deck tables) failed
-      (one_left (Started job step items) deck refl follow
+      one_left (Started job step items) deck refl follow
       (λ left.
-      tested-run tables job (started_follows layout tables step items.items) follow
-      (λ row at passes.
-      by-row (λ after. IsLeft after job) tables job (λ row. option_map_or (λ owned. after_started row owned step items.items tables) (step_of_run row step) tables) row at
-      (started_left job step items.items row at passes)))) all
+      by-started (λ after. IsLeft after job) layout tables job deck step items follow (λ row owned its. still_left job row _ (after_started row owned step items.items tables).sets its.row_at refl (on_still row its.on))) failed all
   left_on (Rewritten job taken writes lengths place image) deck failed follow leaves all =
-      each-left tables (after_event (Rewritten job taken writes lengths place image) deck tables) failed
-      (one_left (Rewritten job taken writes lengths place image) deck refl follow
+      one_left (Rewritten job taken writes lengths place image) deck refl follow
       (λ left.
-      tested-run tables job (λ row. is_running row && lengths_follow tables row lengths.items && of_step row (is_rewrite tables place image row)) follow
-      (λ row at passes.
-      option_map_or-true (own_step row) (is_rewrite tables place image row) (and-second (is_running row && lengths_follow tables row lengths.items) _ passes)
-      (λ owned found rewrites.
-      by-row (λ after. IsLeft after job) tables job (λ row. by_step (λ owned step. after_rewritten row owned step writes lengths.items tables) row tables) row at
-      (by-own (λ after. IsLeft after job) tables (λ owned step. after_rewritten row owned step writes lengths.items tables) row owned found (
-        _,
-        (row-next tables tables job row _ (after_rewritten row owned (step_in (place_of row)) writes lengths.items tables).sets (row-as_is tables job row at) (run_number tables job row numbered at)).now,
-        and_from (is_in_state On row) true (and-first (is_in_state On row) (is_within (place_of row)) (on_of job row at left)) refl,
-      )))))) all
+      by-rewritten (λ after. IsLeft after job) layout tables job deck taken writes place lengths image follow
+      (λ row owned its. still_left job row _ (after_rewritten row owned (step_in (place_of row)) writes lengths.items tables).sets its.at.row_at refl (runs_still row its.runs))) failed all
   left_on (Checkpointed job id taken writes lengths place bytes) deck failed follow leaves all =
-      each-left tables (after_event (Checkpointed job id taken writes lengths place bytes) deck tables) failed
-      (one_left (Checkpointed job id taken writes lengths place bytes) deck refl follow
+      one_left (Checkpointed job id taken writes lengths place bytes) deck refl follow
       (λ left.
-      tested-run tables job (λ row. is_running row && lengths_follow tables row lengths.items && of_step row (is_checkpoint tables id lengths.items place bytes row)) follow
-      (λ row at passes.
-      option_map_or-true (own_step row) (is_checkpoint tables id lengths.items place bytes row) (and-second (is_running row && lengths_follow tables row lengths.items) _ passes)
-      (λ owned found checks.
-      let kept : Kept = record { id = id; run = job; place = place; bytes = bytes } in
-      by-row (λ after. IsLeft after job) tables job (λ row. by_step (λ owned step. after_checkpointed row owned step kept taken writes lengths.items tables) row tables) row at
-      (by-own (λ after. IsLeft after job) tables (λ owned step. after_checkpointed row owned step kept taken writes lengths.items tables) row owned found (
-        _,
-        (row-next tables tables job row _ (after_checkpointed row owned (step_in (place_of row)) kept taken writes lengths.items tables).sets (row-as_is tables job row at) (run_number tables job row numbered at)).now,
-        and_from (is_in_state On row) true (and-first (is_in_state On row) (is_within (place_of row)) (on_of job row at left)) refl,
-      )))))) all
+      by-checkpointed (λ after. IsLeft after job) layout tables job deck taken writes place bytes id lengths follow
+      (λ row owned its.
+      still_left job row _ (after_checkpointed row owned (step_in (place_of row)) (record { id = id; run = job; place = place; bytes = bytes }) taken writes lengths.items tables).sets its.at.row_at refl (runs_still row its.runs))) failed all
   left_on (Cancelled job) deck failed follow leaves all =
-      each-left tables (after_event (Cancelled job) deck tables) failed
-      (one_left (Cancelled job) deck refl follow
-      (λ left.
-      by-row (λ after. IsLeft after job) tables job (λ row. after_cancelled row tables) left.0 left.1
-      (record left.0 { in_effect = None }, (row-next tables tables job left.0 _ tables.sets (row-as_is tables job left.0 left.1) (run_number tables job left.0 numbered left.1)).now, left.2))) all
+      one_left (Cancelled job) deck refl follow
+      (λ left. by-cancelled (λ after. IsLeft after job) layout tables job deck follow (λ row at runs. still_left job row (record row { in_effect = None }) tables.sets at refl runs)) failed all
   left_on (StepEnded job step rc writes lengths) deck failed follow leaves all = rest_left (StepEnded job step rc writes lengths) deck refl follow failed leaves all
   left_on (Restarted job initiator code checkpoint) deck failed follow leaves all =
       rest_left (Restarted job initiator code checkpoint) deck refl follow (failed_behind (Restarted job initiator code checkpoint) failed) (others-marked job failed) (marks-kept (LeftIn tables) job failed all)
   left_on (Held job code writes lengths) deck failed follow leaves all =
       rest_left (Held job code writes lengths) deck refl follow (failed_behind (Held job code writes lengths) failed) (others-marked job failed) (marks-kept (LeftIn tables) job failed all)
   left_on (Released job) deck failed follow leaves all =
-      each-left tables (after_event (Released job) deck tables) failed
-      (one_left (Released job) deck refl follow
-      (λ left. tested-run tables job (is_in_state HeldRun) follow (λ row at held. is_held job row at left held))) all
+      one_left (Released job) deck refl follow (λ left. by-released (λ after. IsLeft after job) layout tables job deck follow (λ row at held. is_held job row at left held)) failed all
   left_on (Ended job ending) deck failed follow leaves all =
       rest_left (Ended job ending) deck refl follow (failed_behind (Ended job ending) failed) (others-marked job failed) (marks-kept (LeftIn tables) job failed all)
   left_on (Purged job) deck failed follow leaves all =
-      each-left tables (after_event (Purged job) deck tables) failed
-      (one_left (Purged job) deck refl follow
-      (λ left. tested-run tables job (is_in_state Queued) follow (λ row at queued. waits job row at left queued))) all
+      one_left (Purged job) deck refl follow (λ left. by-purged (λ after. IsLeft after job) layout tables job deck follow (λ row at queued. waits job row at left queued)) failed all
 
 pub left-behind : (layout : Layout) (old : JobsView) (now : TablesModel) (marked : List FailedRun) (event : Event) (deck : Option Job) → AreJobs layout old → AreNumbered 1 old.tables.desk.runs → now ≡ after_event event deck old.tables.desk → marked ≡ failed_behind event old.failed
     → AreLeft old → follows layout old.tables.desk event deck ≡ true → LeavesLeft event old.failed → AllByRecursion (LeftIn now) marked

@@ -1,9 +1,8 @@
 -- The jobs in memory go on to hold their own.
-use Rattle.std.proofs.Common.{◌≡◌, ◌+◌, ◌==◌, ℕ, zero, suc, Bool, true, false, cond, not, List, [], ◌∷◌, find, refl, ap, sym, ◌∙◌, subst, Option, Some, None}
+use Rattle.std.proofs.Common.{◌≡◌, ◌+◌, ◌==◌, ℕ, suc, Bool, true, false, cond, not, List, [], ◌∷◌, find, refl, ap, sym, ◌∙◌, subst, Option, Some, None}
 use Rattle.std.specs.List.{AllByRecursion}
 use Rattle.std.specs.Option.{option_map, option_map_or}
 use Rattle.std.specs.Prelude.{IfSome}
-use Rattle.ckr_base.proofs.Bools.{and-second}
 use Rattle.ckr_base.proofs.Numbers.{equal-false, equal-true}
 use Rattle.ckr_base.proofs.Sequences.{find-holds, find-passes}
 use Rattle.ckr_events.specs.declared.event.Event.{Event}
@@ -13,24 +12,21 @@ use Rattle.ckr_jcl.specs.declared.deck.Job.{Job}
 use Rattle.ckr_library.specs.Catalog.{records_of}
 use Rattle.ckr_library.specs.NameMaps.{Name}
 use Rattle.ckr_meaning.specs.EffectiveJob.{OwnedStep}
-use Rattle.ckr_points.specs.declared.run.RunState.TheVariants.{On}
-use Rattle.ckr_points.specs.Follows.{follows, is_in_state, own_step, started_follows}
+use Rattle.ckr_points.specs.Follows.{follows, own_step}
 use Rattle.ckr_points.specs.Restart.{after_event}
-use Rattle.ckr_points.specs.Rows.{RunRow, TablesModel, no_tables, run_of, step_of_run}
+use Rattle.ckr_points.specs.Rows.{RunRow, TablesModel, no_tables, run_of}
 use Rattle.ckr_points.specs.Tables.{after_started}
-use Rattle.ckr_points_invariant.proofs.WaitingRuns.{tested-run}
 use Rattle.ckr_points_tables.specs.Invariant.{MaySubmit}
 use Rattle.ckr_points_tables.specs.View.{RoomyTables}
 use Rattle.ckr_volumes.specs.declared.layout.Layout.{Layout}
 use Rattle.ckr_desk_memory.proofs.Holders.Events.{holders-none, holders-stay, no-row}
-use Rattle.ckr_desk_memory.proofs.Holders.RowTests.{by-some}
-use Rattle.ckr_desk_memory.proofs.Holders.Moves.{by-row, row-as_is, row-next}
+use Rattle.ckr_desk_memory.proofs.Holders.Moves.{row-as_is, row-next}
 use Rattle.ckr_desk_memory.proofs.Holders.OwnSets.{running-served}
 use Rattle.ckr_desk_memory.proofs.Holders.Points.{points-stay}
 use Rattle.ckr_desk_memory.proofs.Holders.RunningSteps.{running-stay}
 use Rattle.ckr_desk_memory.proofs.RunningSteps.Again.{again-cases, is-back}
 use Rattle.ckr_base.specs.declared.code.Code.{Code}
-use Rattle.ckr_base.proofs.Options.{option_map_or-true, some-not-none}
+use Rattle.ckr_base.proofs.Options.{some-not-none}
 use Rattle.ckr_desk_memory.proofs.Replays.{any_accepted, any_submits, goes-on-with}
 use Rattle.ckr_desk_memory.proofs.RunningSteps.First.{all-without}
 use Rattle.ckr_desk_memory.proofs.RunningSteps.TakenSteps.{is-taken}
@@ -47,6 +43,7 @@ use Rattle.ckr_desk_memory.specs.Start.{HasNew}
 use Rattle.ckr_desk_memory.specs.View.{JobsView, PointView, RunningStepView, begun}
 use Rattle.ckr_desk_turn.specs.Queue.{AreNumbered}
 use Rattle.ckr_desk_turn.proofs.Queue.Events.{run_number}
+use Rattle.ckr_desk_memory.proofs.EventRows.{IsStarting, by-started}
 
 -- ---- no two running steps are of one run
 
@@ -128,18 +125,13 @@ module _ (layout : Layout) (tables : TablesModel) (rows : AllByRecursion IsAccep
   abbrev StartsAlone : ℕ → ℕ → List RunningStepView → List RunningStepView → TablesModel → Type 0
   StartsAlone job step old new after = StepStarts job step after old new → AreSingle new
 
-  started : (job step : ℕ) (items : List Made) (old new : List RunningStepView) (row : RunRow) → AreSingle old → run_of tables job ≡ Some row → started_follows layout tables step items row ≡ true
-      → StartsAlone job step old new (option_map_or (λ owned. after_started row owned step items tables) (step_of_run row step) tables)
-  started job step items old new row single at follow =
-      option_map_or-true (step_of_run row step) _ (and-second (is_in_state On row) _ follow)
-      (λ owned found passes.
-      by-some (StartsAlone job step old new) (step_of_run row step) (λ owned. after_started row owned step items tables) tables owned found
-      (λ starts.
+  started : (job step : ℕ) (items : List Made) (old new : List RunningStepView) → AreSingle old → (row : RunRow) (owned : OwnedStep) → IsStarting layout tables job step items row owned → StartsAlone job step old new (after_started row owned step items tables)
+  started job step items old new single row owned its starts =
       let after : TablesModel = after_started row owned step items tables in
-      let now = (row-next tables tables job row _ after.sets (row-as_is tables job row at) (run_number tables job row numbered at)).now in
-      let new_one : HasNew job row.job.root owned (begun row.job.root owned) after.sets old new = starts _ owned now found in
+      let now = (row-next tables tables job row _ after.sets (row-as_is tables job row its.row_at) (run_number tables job row numbered its.row_at)).now in
+      let new_one : HasNew job row.job.root owned (begun row.job.root owned) after.sets old new = starts _ owned now its.found in
       subst AreSingle (sym new_one.first)
-      (subst (λ n. AllByRecursion (IsOfOther n) (without_run job old)) (sym new_one.run) (others-left job old), single-left job old single)))
+      (subst (λ n. AllByRecursion (IsOfOther n) (without_run job old)) (sym new_one.run) (others-left job old), single-left job old single)
 
   again : (job initiator : ℕ) (code : Code) (deck : Option Job) (points : List PointView) (old new : List RunningStepView) → follows layout tables (Restarted job initiator code true) deck ≡ true → AreSingle old
       → StepGoesBack (find (is_point_of job) points) job (after_event (Restarted job initiator code true) deck tables) old new → AreSingle new
@@ -155,11 +147,7 @@ module _ (layout : Layout) (tables : TablesModel) (rows : AllByRecursion IsAccep
       again-single (after_event (Selected job initiator (suc before) step (Some id)) deck tables) job over.next over.owned points old new over.next_at over.found single goes
 
   single_on : (event : Event) (deck : Option Job) (points : List PointView) (old new : List RunningStepView) → follows layout tables event deck ≡ true → AreSingle old → GoesOn event (after_event event deck tables) points old new → AreSingle new
-  single_on (Started job step items) deck points old new follow single goes =
-      tested-run tables job (started_follows layout tables step items.items) follow
-      (λ row at passes.
-      by-row (StartsAlone job step old new) tables job (λ row. option_map_or (λ owned. after_started row owned step items.items tables) (step_of_run row step) tables) row at
-      (started job step items.items old new row single at passes) goes)
+  single_on (Started job step items) deck points old new follow single goes = by-started (StartsAlone job step old new) layout tables job deck step items follow (started job step items.items old new single) goes
   single_on (Checkpointed job id taken writes lengths place bytes) deck points old new follow single goes =
       single-entered job (check_name_in (after_event (Checkpointed job id taken writes lengths place bytes) deck tables) job) (place + records_of bytes) old new single goes
   single_on (Cancelled job) deck points old new follow single goes = subst AreSingle (sym goes) (single-served job old single)
@@ -169,8 +157,6 @@ module _ (layout : Layout) (tables : TablesModel) (rows : AllByRecursion IsAccep
   single_on (Held job code writes lengths) deck points old new follow single goes = subst AreSingle (sym goes) (single-left job old single)
   single_on (Ended job ending) deck points old new follow single goes = subst AreSingle (sym goes) (single-left job old single)
   single_on (Selected job initiator (suc before) step (Some id)) deck points old new follow single goes = taken job initiator before step id deck points old new follow single goes
-  single_on (Selected job initiator (suc before) step None) deck points old new follow single goes = subst AreSingle (sym goes) single
-  single_on (Selected job initiator zero step id) deck points old new follow single goes = subst AreSingle (sym goes) single
   single_on _ deck points old new follow single goes = subst AreSingle (sym goes) single
 
 -- ---- the jobs

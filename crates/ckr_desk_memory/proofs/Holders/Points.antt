@@ -1,37 +1,33 @@
 -- The points of the checkpoints in effect stay known, by each event that follows.
-use Rattle.std.proofs.Common.{◌≡◌, ◌==◌, ◌+◌, ◌&&◌, ◌||◌, ℕ, zero, suc, true, false, cond, List, find, refl, ap, sym, ◌∙◌, subst, Option, None, Some}
-use Rattle.std.specs.Prelude.{IsSome, nat_eq}
+use Rattle.std.proofs.Common.{◌≡◌, ◌==◌, ◌+◌, ℕ, zero, suc, true, false, cond, List, find, refl, ap, sym, ◌∙◌, subst, Option, None, Some}
+use Rattle.std.specs.Prelude.{IsSome}
 use Rattle.std.specs.List.{AllByRecursion}
-use Rattle.std.specs.Option.{is_none, is_some, option_eq, option_map, option_map_or}
+use Rattle.std.specs.Option.{is_none, is_some, option_map}
 use Rattle.std.proofs.lemmas.Bool.{and_from, false≢true}
 use Rattle.std.proofs.lemmas.Option.{same_Some}
 use Rattle.arrayvec.specs.ArrayVec.{ArrayVec}
 use Rattle.ckr_points_invariant.specs.EarlierRuns.{MayContinue}
-use Rattle.ckr_base.proofs.Bools.{and-first, and-second}
+use Rattle.ckr_base.proofs.Bools.{and-first}
 use Rattle.ckr_base.proofs.Numbers.{equal-itself, equal-true, number-cases}
 use Rattle.ckr_base.proofs.Options.{option_map_or-true, some-one}
 use Rattle.ckr_base.proofs.Sequences.{find-holds, find-passes}
 use Rattle.ckr_base.specs.declared.code.Code.{Code}
 use Rattle.ckr_events.specs.Jobs.{job_of}
-use Rattle.ckr_events.specs.declared.event.Ending.{Ending}
-use Rattle.ckr_events.specs.declared.event.Ending.TheVariants.{Allocation, Coded, Completed}
 use Rattle.ckr_events.specs.declared.event.Event.{Event}
 use Rattle.ckr_events.specs.declared.event.Event.TheVariants.{Cancelled, Checkpointed, Denied, Ended, Held, Purged, Released as ReleasedEvent, Restarted, Rewritten, Selected, Started, StepEnded, Submitted}
 use Rattle.ckr_events.specs.declared.event.Made.{Made}
 use Rattle.ckr_jcl.specs.declared.deck.Job.{Job}
 use Rattle.ckr_library.specs.Catalog.{records_of}
 use Rattle.ckr_library.specs.NameMaps.{Name}
-use Rattle.ckr_meaning.specs.EffectiveJob.{OwnedStep, flaws_in, placed_in}
-use Rattle.ckr_meaning.specs.declared.place.Place.{Place}
-use Rattle.ckr_meaning.specs.declared.place.Place.TheVariants.{Before, Opened, Within}
-use Rattle.ckr_points.specs.declared.run.RunState.TheVariants.{Queued, On, Held as HeldRun, Released, Denied as DeniedRun, Purged as PurgedRun}
-use Rattle.ckr_points.specs.Follows.{ended_follows, follows, is_empty, is_free, is_in_state, is_rewrite, is_running, is_within, lengths_follow, may_restart_again, may_start, of_step, own_step, selected_follows, started_follows}
+use Rattle.ckr_meaning.specs.EffectiveJob.{OwnedStep}
+use Rattle.ckr_meaning.specs.declared.place.Place.TheVariants.{Within}
+use Rattle.ckr_points.specs.declared.run.RunState.TheVariants.{Held as HeldRun, Released, Denied as DeniedRun, Purged as PurgedRun}
+use Rattle.ckr_points.specs.Follows.{follows, is_in_state, is_running, is_within, may_start, own_step}
 use Rattle.ckr_points.specs.Marks.{point_at, with_point as with_start_point}
 use Rattle.ckr_points.specs.Office.{is_holder}
-use Rattle.ckr_points.specs.Restart.{after_abnormal, after_ended, after_event, after_passed_ended, after_put_back, after_restarted, after_start_continued, back_to_start, by_step, continued_row, place_of, point_restarted, row_on, step_in}
-use Rattle.ckr_points.specs.Rows.{EffectPoint, RunRow, StartPoint, TablesModel, run_of, standing_of, step_of_run, table_ways, with_run}
+use Rattle.ckr_points.specs.Restart.{after_event, after_passed_ended, after_put_back, after_restarted, after_start_continued, back_to_start, by_step, continued_row, place_of, point_restarted, row_on, step_in}
+use Rattle.ckr_points.specs.Rows.{EffectPoint, RunRow, StartPoint, TablesModel, run_of, with_run}
 use Rattle.ckr_points.specs.Tables.{after_cancelled, after_commit, after_dispositions, after_held, after_rewritten, after_selected, after_started, after_step_ended, after_submitted, effect_rewritten, row_rewritten}
-use Rattle.ckr_points_invariant.proofs.WaitingRuns.{tested-run}
 use Rattle.ckr_desk_memory.proofs.Continuations.{by-start}
 use Rattle.ckr_points_tables.specs.Invariant.{is_submission}
 use Rattle.ckr_volumes.specs.declared.layout.Layout.{Layout}
@@ -46,13 +42,15 @@ use Rattle.ckr_desk_memory.specs.View.{PointView, RunningStepView}
 use Rattle.ckr_desk_memory.proofs.Holders.Events.{others-stay}
 use Rattle.ckr_desk_memory.proofs.Holders.RowTests.{by-some}
 use Rattle.ckr_desk_memory.proofs.Holders.Submissions.{row-before}
-use Rattle.ckr_desk_memory.proofs.Holders.Moves.{HasRow, by-own, by-row, row-as_is, row-next}
-use Rattle.ckr_desk_memory.proofs.Invariant.{hand-in_step, idle-between, in_step-within, not-within, restarts-in_step, running-in_step}
+use Rattle.ckr_desk_memory.proofs.Holders.Moves.{HasRow, by-own, row-as_is, row-next}
+use Rattle.ckr_desk_memory.proofs.Invariant.{hand-in_step, idle-between, in_step-within, not-within, running-in_step}
 use Rattle.ckr_desk_memory.proofs.Queue.{held-is}
 use Rattle.ckr_desk_memory.proofs.Points.{other-point, own-with}
 use Rattle.ckr_desk_memory.proofs.RunningSteps.Again.{is-back, step-of-within}
 use Rattle.ckr_desk_memory.proofs.RunningSteps.TakenSteps.{is-taken}
 use Rattle.ckr_desk_memory.proofs.Starts.Steps.{row-among}
+use Rattle.ckr_desk_memory.proofs.EventRows.{IsRestarting, after_end_with, after_end_within, by-cancelled, by-denied, by-ended, by-held, by-purged, by-released, by-restarted, by-rewritten, by-selected, by-started, by-step_ended}
+use Rattle.ckr_points.specs.declared.run.RunState.{RunState}
 
 -- ---- a run that has no checkpoint in effect, or isn't running
 
@@ -75,18 +73,13 @@ module _ (tables : TablesModel) (job : ℕ) where
   gone-ended mid was row has same =
       gone-row (after_passed_ended row mid) job _ (row-next tables mid job was _ (after_passed_ended row mid).sets has same).now (λ runs effect. false≢true runs)
 
-  gone-abnormal : (mid : TablesModel) (was row : RunRow) (place : Place) → HasRow tables mid job was → row.number ≡ job → is_some (step_of_run row (step_in place)) ≡ true → Gone job (after_abnormal row place mid)
-  gone-abnormal mid was row (Before step) has same there = gone-ended mid was row has same
-  gone-abnormal mid was row (Opened step) has same there = gone-ended mid was row has same
-  gone-abnormal mid was row (Within step writes) has same there = by (step_of_run row step) refl there
-    where
-      by : (found : Option OwnedStep) → step_of_run row step ≡ found → is_some found ≡ true → Gone job (after_abnormal row (Within step writes) mid)
-      by None found there = absurd (false≢true there)
-      by (Some owned) found there =
-          by-some (Gone job) (step_of_run row step) (λ owned. let done = after_dispositions row owned step true mid in after_passed_ended (record row { passed = done.passed }) (record mid { sets = done.sets })) mid owned found
-          (let done = after_dispositions row owned step true mid in
-          gone-row (after_passed_ended (record row { passed = done.passed }) (record mid { sets = done.sets })) job _
-          (row-next tables mid job was _ (after_passed_ended (record row { passed = done.passed }) (record mid { sets = done.sets })).sets has same).now (λ runs effect. false≢true runs))
+  gone-end_within : (mid : TablesModel) (was row : RunRow) (owned : OwnedStep) (step : ℕ) → HasRow tables mid job was → row.number ≡ job → Gone job (after_end_within row owned step mid)
+  gone-end_within mid was row owned step has same =
+      gone-row (after_end_within row owned step mid) job _ (row-next tables mid job was _ (after_end_within row owned step mid).sets has same).now (λ runs effect. false≢true runs)
+
+-- of a run whose checkpoint is in effect the point is among these
+abbrev StillKnown : ℕ → List PointView → TablesModel → Type 0
+StillKnown job behind after = (next : RunRow) (owned : OwnedStep) → run_of after job ≡ Some next → is_in_step next ≡ true → is_some next.in_effect ≡ true → own_step next ≡ Some owned → HasPoint behind job owned
 
 -- ---- each event
 
@@ -101,24 +94,36 @@ module _ (layout : Layout) (tables : TablesModel) (rows : AllByRecursion IsAccep
     its_placed : IsPlacedRow row
     its_placed = row-among IsPlacedRow tables job row placed at
 
-    gone-end : (ending : Ending) → ended_follows tables row ending ≡ true → Gone job (after_ended row ending tables)
-    gone-end Completed follow = gone-ended tables job tables row row as_is mine
-    gone-end (Coded code rule writes lengths) follow =
-        option_map_or-true (own_step row) _ (and-second (is_running row || is_in_state Released row) _ follow)
-        (λ owned found lengths_so.
+    -- a run that waits comes to an initiator, or leaves the queue
+    gone-selected : (initiator : ℕ) → Gone job (after_selected row initiator tables)
+    gone-selected initiator = gone-row (after_selected row initiator tables) job _ (row-next tables tables job row _ tables.sets as_is mine).now (λ runs effect. false≢true runs)
+
+    gone-out : (state : RunState) → is_holder state ≡ false → Gone job (with_run (record row { state = state }) tables)
+    gone-out state free =
+        gone-row (with_run (record row { state = state }) tables) job _ (row-next tables tables job row _ tables.sets as_is mine).now
+        (λ runs effect. false≢true (sym free ∙ and-first (is_holder state) (is_within (place_of row)) runs))
+
+    gone-started : (step : ℕ) (items : List Made) (owned : OwnedStep) → may_start step (place_of row) ≡ true → Gone job (after_started row owned step items tables)
+    gone-started step items owned ahead =
+        gone-row (after_started row owned step items tables) job _ (row-next tables tables job row _ (after_started row owned step items tables).sets as_is mine).now
+        (λ runs effect. not-both row.in_effect (idle-between row (not-within step (place_of row) ahead) its_placed) effect)
+
+    gone-withdrawn : Gone job (after_cancelled row tables)
+    gone-withdrawn = gone-row (after_cancelled row tables) job _ (row-next tables tables job row _ tables.sets as_is mine).now (λ runs effect. false≢true effect)
+
+    gone-step : (rc writes : ℕ) (lengths : List ℕ) (owned : OwnedStep) → Gone job (after_step_ended row owned (step_in (place_of row)) rc writes lengths tables)
+    gone-step rc writes lengths owned =
         let step = step_in (place_of row) in
-        let mid = after_commit row owned step writes lengths.items tables in
-        by-own (Gone job) tables (λ owned step. after_abnormal (record row { place = Some (Within step writes) }) (Within step writes) (after_commit row owned step writes lengths.items tables)) row owned found
-        (gone-abnormal tables job mid _ (record row { place = Some (Within step writes) }) (Within step writes) (row-next tables tables job row _ mid.sets as_is mine) mine (ap is_some found)))
-    gone-end (Allocation dd cause first second) follow =
-        gone-abnormal tables job tables row row (place_of row) as_is mine (option_map_or-true (own_step row) _ (and-second (is_in_state On row) _ follow) (λ owned found so. ap is_some found))
+        let mid = after_commit row owned step writes lengths tables in
+        gone-row (after_step_ended row owned step rc writes lengths tables) job _
+        (row-next tables mid job _ _ (after_dispositions row owned step false mid).sets (row-next tables tables job row _ mid.sets as_is mine) mine).now (λ runs effect. false≢true effect)
 
     -- a restart at the start of the step leaves the checkpoint
-    gone-restarted : (initiator : ℕ) → is_in_step row ≡ true → may_restart_again false row ≡ true → Gone job (by_step (λ owned step. after_restarted row owned step initiator false tables) row tables)
-    gone-restarted initiator inside again =
-        let its = step-of-within row its_placed (in_step-within row inside) in
+    gone-restarted : (initiator : ℕ) → IsRestarting tables job row false → Gone job (by_step (λ owned step. after_restarted row owned step initiator false tables) row tables)
+    gone-restarted initiator again =
+        let its = step-of-within row its_placed (in_step-within row (hand-in_step row again.hand its_placed)) in
         let step = step_in (place_of row) in
-        option_map_or-true (point_at row.points step) _ again
+        option_map_or-true (point_at row.points step) _ again.again
         (λ point began few.
         let back : StartPoint → TablesModel =
         λ point. after_put_back (record (row_on initiator row) { points = with_start_point (point_restarted point) row.points; in_effect = None }) its.0 (back_to_start row its.0 step point) tables in
@@ -126,65 +131,33 @@ module _ (layout : Layout) (tables : TablesModel) (rows : AllByRecursion IsAccep
         (by-some (Gone job) (point_at row.points step) back tables point began
         (gone-row (back point) job _ (row-next tables tables job row _ (back point).sets as_is mine).now (λ runs effect. false≢true effect))))
 
-    gone-started : (step : ℕ) (items : List Made) → started_follows layout tables step items row ≡ true → Gone job (option_map_or (λ owned. after_started row owned step items tables) (step_of_run row step) tables)
-    gone-started step items follow =
-        option_map_or-true (step_of_run row step) _ (and-second (is_in_state On row) _ follow)
-        (λ owned found passes.
-        let placed_so = placed_in table_ways (standing_of row tables) row.job.root owned in
-        let between = not-within step (place_of row) (and-first (may_start step (place_of row)) _ (and-first (may_start step (place_of row) && is_empty (flaws_in placed_so)) _ passes)) in
-        by-some (Gone job) (step_of_run row step) (λ owned. after_started row owned step items tables) tables owned found
-        (gone-row (after_started row owned step items tables) job _ (row-next tables tables job row _ (after_started row owned step items tables).sets as_is mine).now
-        (λ runs effect. not-both row.in_effect (idle-between row between its_placed) effect)))
-
-    gone-step : (rc writes : ℕ) (lengths : List ℕ) → lengths_follow tables row lengths ≡ true → Gone job (by_step (λ owned step. after_step_ended row owned step rc writes lengths tables) row tables)
-    gone-step rc writes lengths follow =
-        option_map_or-true (own_step row) _ follow
-        (λ owned found so.
+    gone-coded : (writes : ℕ) (lengths : List ℕ) (owned : OwnedStep) → Gone job (after_end_with row owned writes lengths tables)
+    gone-coded writes lengths owned =
         let step = step_in (place_of row) in
         let mid = after_commit row owned step writes lengths tables in
-        by-own (Gone job) tables (λ owned step. after_step_ended row owned step rc writes lengths tables) row owned found
-        (gone-row (after_step_ended row owned step rc writes lengths tables) job _
-        (row-next tables mid job _ _ (after_dispositions row owned step false mid).sets (row-next tables tables job row _ mid.sets as_is mine) mine).now (λ runs effect. false≢true effect)))
-
-    gone-selected : (initiator : ℕ) → Gone job (after_selected row initiator tables)
-    gone-selected initiator = gone-row (after_selected row initiator tables) job _ (row-next tables tables job row _ tables.sets as_is mine).now (λ runs effect. false≢true runs)
-
-    -- a run that waited and leaves the queue
-    gone-denied : Gone job (with_run (record row { state = DeniedRun }) tables)
-    gone-denied = gone-row (with_run (record row { state = DeniedRun }) tables) job _ (row-next tables tables job row _ tables.sets as_is mine).now (λ runs effect. false≢true runs)
+        gone-end_within tables job mid _ (record row { place = Some (Within step writes) }) owned step (row-next tables tables job row _ mid.sets as_is mine) mine
 
     -- a rewrite leaves it in effect
-    abbrev StillKnown : List PointView → TablesModel → Type 0
-    StillKnown behind after = (next : RunRow) (owned : OwnedStep) → run_of after job ≡ Some next → is_in_step next ≡ true → is_some next.in_effect ≡ true → own_step next ≡ Some owned → HasPoint behind job owned
-
-    known-rewritten : (writes : ℕ) (lengths : List ℕ) → is_running row ≡ true → lengths_follow tables row lengths ≡ true → StillKnown points (by_step (λ owned step. after_rewritten row owned step writes lengths tables) row tables)
-    known-rewritten writes lengths runs follow =
-        option_map_or-true (own_step row) _ follow
-        (λ owned found so.
+    known-rewritten : (writes : ℕ) (lengths : List ℕ) (owned : OwnedStep) → is_running row ≡ true → StillKnown job points (after_rewritten row owned (step_in (place_of row)) writes lengths tables)
+    known-rewritten writes lengths owned runs next other now runs_on effect there =
         let step = step_in (place_of row) in
-        by-own (StillKnown points) tables (λ owned step. after_rewritten row owned step writes lengths tables) row owned found
-        (λ next other now runs_on effect there.
         let next_row : RunRow = record (row_rewritten step row) { place = Some (Within step writes) } in
         let same = some-one next_row next (run_of (after_rewritten row owned step writes lengths tables) job) (row-next tables tables job row next_row (after_rewritten row owned step writes lengths tables).sets as_is mine).now now in
-        known job row other at (running-in_step row runs) (still row.in_effect ∙ ap (λ (r : RunRow). is_some r.in_effect) same ∙ effect) (ap own_step same ∙ there)))
+        known job row other at (running-in_step row runs) (still row.in_effect ∙ ap (λ (r : RunRow). is_some r.in_effect) same ∙ effect) (ap own_step same ∙ there)
       where
         still : (effect : Option EffectPoint) → is_some effect ≡ is_some (option_map effect_rewritten effect)
         still None = refl
         still (Some effect) = refl
 
     -- so does a hold, and the release of a held run
-    known-held : (code : Code) (writes : ℕ) (lengths : List ℕ) → is_in_step row ≡ true → lengths_follow tables row lengths ≡ true → StillKnown points (by_step (λ owned step. after_held row owned step code writes lengths tables) row tables)
-    known-held code writes lengths inside follow =
-        option_map_or-true (own_step row) _ follow
-        (λ owned found so.
+    known-held : (code : Code) (writes : ℕ) (lengths : List ℕ) (owned : OwnedStep) → is_in_step row ≡ true → StillKnown job points (after_held row owned (step_in (place_of row)) code writes lengths tables)
+    known-held code writes lengths owned inside next other now on effect there =
         let step = step_in (place_of row) in
-        by-own (StillKnown points) tables (λ owned step. after_held row owned step code writes lengths tables) row owned found
-        (λ next other now on effect there.
         let next_row : RunRow = record row { state = HeldRun; initiator = None; code = Some code; place = Some (Within step writes) } in
         let same = some-one next_row next (run_of (after_held row owned step code writes lengths tables) job) (row-next tables tables job row next_row (after_held row owned step code writes lengths tables).sets as_is mine).now now in
-        known job row other at inside (ap (λ (r : RunRow). is_some r.in_effect) same ∙ effect) (ap own_step same ∙ there)))
+        known job row other at inside (ap (λ (r : RunRow). is_some r.in_effect) same ∙ effect) (ap own_step same ∙ there)
 
-    known-released : is_in_state HeldRun row ≡ true → StillKnown points (with_run (record row { state = Released }) tables)
+    known-released : is_in_state HeldRun row ≡ true → StillKnown job points (with_run (record row { state = Released }) tables)
     known-released held next other now on effect there =
         let next_row : RunRow = record row { state = Released } in
         let same = some-one next_row next (run_of (with_run next_row tables) job) (row-next tables tables job row next_row tables.sets as_is mine).now now in
@@ -282,44 +255,26 @@ module _ (layout : Layout) (tables : TablesModel) (rows : AllByRecursion IsAccep
   stay (Submitted job cards) None old new follow knows commits goes all = known
   stay (Submitted job cards) (Some deck) old new follow knows commits goes all = known-submitted job deck
   stay (Selected job initiator zero step id) deck old new follow knows commits goes all =
-      with-gone (Selected job initiator zero step id) deck new refl follow
-      (tested-run tables job (selected_follows layout tables initiator zero step id) follow
-      (λ row at passes. by-row (Gone job) tables job (λ row. after_selected row initiator tables) row at (gone-selected job row at initiator)))
+      with-gone (Selected job initiator zero step id) deck new refl follow (by-selected (Gone job) layout tables job deck initiator step id follow (λ row its. gone-selected job row its.row_at initiator))
   stay (Selected job initiator (suc before) step None) deck old new follow knows commits goes all =
       with-gone (Selected job initiator (suc before) step None) deck new refl follow
       (by-start layout tables job initiator before step deck (Gone job) follow (gone-continued job initiator before step))
   stay (Selected job initiator (suc before) step (Some id)) deck old new follow knows commits goes all = known-taken job initiator before step id deck new follow knows
   stay (Denied job rule name) deck old new follow knows commits goes all =
-      with-gone (Denied job rule name) deck new refl follow
-      (tested-run tables job (λ row. is_in_state Queued row && is_some row.deck.restart) follow
-      (λ row at passes. by-row (Gone job) tables job (λ row. with_run (record row { state = DeniedRun }) tables) row at (gone-denied job row at)))
+      with-gone (Denied job rule name) deck new refl follow (by-denied (Gone job) layout tables job deck rule name follow (λ row at queued. gone-out job row at DeniedRun refl))
   stay (Started job step items) deck old new follow knows commits goes all =
-      with-gone (Started job step items) deck new refl follow
-      (tested-run tables job (started_follows layout tables step items.items) follow
-      (λ row at passes.
-      by-row (Gone job) tables job (λ row. option_map_or (λ owned. after_started row owned step items.items tables) (step_of_run row step) tables) row at (gone-started job row at step items.items passes)))
+      with-gone (Started job step items) deck new refl follow (by-started (Gone job) layout tables job deck step items follow (λ row owned its. gone-started job row its.row_at step items.items owned its.ahead))
   stay (Rewritten job taken writes lengths place image) deck old new follow knows commits goes all =
       with-own (Rewritten job taken writes lengths place image) deck new refl follow
-      (tested-run tables job (λ row. is_running row && lengths_follow tables row lengths.items && of_step row (is_rewrite tables place image row)) follow
-      (λ row at passes.
-      let both = and-first (is_running row && lengths_follow tables row lengths.items) _ passes in
-      by-row (StillKnown job row at points) tables job (λ row. by_step (λ owned step. after_rewritten row owned step writes lengths.items tables) row tables) row at
-      (known-rewritten job row at writes lengths.items (and-first (is_running row) _ both) (and-second (is_running row) _ both))))
+      (by-rewritten (StillKnown job points) layout tables job deck taken writes place lengths image follow (λ row owned its. known-rewritten job row its.at.row_at writes lengths.items owned its.runs))
   stay (Checkpointed job id taken writes lengths place bytes) deck old new follow knows commits goes all =
       with-own (Checkpointed job id taken writes lengths place bytes) deck new refl follow
       (λ row owned at runs effect found. known-checkpointed job taken writes place bytes id lengths deck old new commits.2 goes all row owned at found)
   stay (Cancelled job) deck old new follow knows commits goes all =
-      with-gone (Cancelled job) deck new refl follow
-      (tested-run tables job is_running follow
-      (λ row at passes.
-      by-row (Gone job) tables job (λ row. after_cancelled row tables) row at
-      (gone-row (after_cancelled row tables) job _ (row-next tables tables job row _ tables.sets (row-as_is tables job row at) (run_number tables job row numbered at)).now (λ runs effect. false≢true effect))))
+      with-gone (Cancelled job) deck new refl follow (by-cancelled (Gone job) layout tables job deck follow (λ row at runs. gone-withdrawn job row at))
   stay (StepEnded job step rc writes lengths) deck old new follow knows commits goes all =
       with-gone (StepEnded job step rc writes lengths) deck new refl follow
-      (tested-run tables job (λ row. is_running row && step_in (place_of row) == step && lengths_follow tables row lengths.items) follow
-      (λ row at passes.
-      by-row (Gone job) tables job (λ row. by_step (λ owned step. after_step_ended row owned step rc writes lengths.items tables) row tables) row at
-      (gone-step job row at rc writes lengths.items (and-second (is_running row && step_in (place_of row) == step) _ passes))))
+      (by-step_ended (Gone job) layout tables job deck step rc writes lengths follow (λ row owned its. gone-step job row its.at.row_at rc writes lengths.items owned))
   stay (Restarted job initiator code true) deck old new follow knows commits goes all =
       let back = is-back layout tables job initiator code deck numbered placed follow in
       with-own (Restarted job initiator code true) deck new refl follow
@@ -329,34 +284,21 @@ module _ (layout : Layout) (tables : TablesModel) (rows : AllByRecursion IsAccep
       subst (HasPoint points job) same (known job back.row back.owned back.row_at back.inside back.effect back.was))
   stay (Restarted job initiator code false) deck old new follow knows commits goes all =
       with-gone (Restarted job initiator code false) deck new refl follow
-      (tested-run tables job (λ row. (is_running row && option_eq nat_eq row.initiator (Some initiator) || is_in_state Released row && is_free layout tables initiator) && may_restart_again false row) follow
-      (λ row at passes.
-      by-row (Gone job) tables job (λ row. by_step (λ owned step. after_restarted row owned step initiator false tables) row tables) row at
-      (gone-restarted job row at initiator (restarts-in_step layout tables initiator false row (row-among IsPlacedRow tables job row placed at) passes)
-      (and-second (is_running row && option_eq nat_eq row.initiator (Some initiator) || is_in_state Released row && is_free layout tables initiator) _ passes))))
+      (by-restarted (Gone job) layout tables job deck initiator code false follow (λ row its. gone-restarted job row its.row_at initiator its))
   stay (Held job code writes lengths) deck old new follow knows commits goes all =
       with-own (Held job code writes lengths) deck new refl follow
-      (tested-run tables job (λ row. (is_running row || is_in_state Released row) && lengths_follow tables row lengths.items) follow
-      (λ row at passes.
-      by-row (StillKnown job row at points) tables job (λ row. by_step (λ owned step. after_held row owned step code writes lengths.items tables) row tables) row at
-      (known-held job row at code writes lengths.items
-      (hand-in_step row (and-first (is_running row || is_in_state Released row) _ passes) (row-among IsPlacedRow tables job row placed at))
-      (and-second (is_running row || is_in_state Released row) _ passes))))
+      (by-held (StillKnown job points) layout tables job deck code writes lengths follow
+      (λ row owned its. known-held job row its.at.row_at code writes lengths.items owned (hand-in_step row its.hand (row-among IsPlacedRow tables job row placed its.at.row_at))))
   stay (ReleasedEvent job) deck old new follow knows commits goes all =
-      with-own (ReleasedEvent job) deck new refl follow
-      (tested-run tables job (is_in_state HeldRun) follow
-      (λ row at passes.
-      by-row (StillKnown job row at points) tables job (λ row. with_run (record row { state = Released }) tables) row at (known-released job row at passes)))
+      with-own (ReleasedEvent job) deck new refl follow (by-released (StillKnown job points) layout tables job deck follow (λ row at held. known-released job row at held))
   stay (Ended job ending) deck old new follow knows commits goes all =
       with-gone (Ended job ending) deck new refl follow
-      (tested-run tables job (λ row. ended_follows tables row ending) follow
-      (λ row at passes. by-row (Gone job) tables job (λ row. after_ended row ending tables) row at (gone-end job row at ending passes)))
+      (by-ended (Gone job) layout tables job deck ending follow
+      (λ row its. gone-ended tables job tables row row (as_is job row its.row_at) (mine job row its.row_at))
+      (λ writes lengths row owned its. gone-coded job row its.at.row_at writes lengths owned)
+      (λ row owned its. gone-end_within tables job tables row row owned (step_in (place_of row)) (as_is job row its.row_at) (mine job row its.row_at)))
   stay (Purged job) deck old new follow knows commits goes all =
-      with-gone (Purged job) deck new refl follow
-      (tested-run tables job (is_in_state Queued) follow
-      (λ row at passes.
-      by-row (Gone job) tables job (λ row. with_run (record row { state = PurgedRun }) tables) row at
-      (gone-row (with_run (record row { state = PurgedRun }) tables) job _ (row-next tables tables job row _ tables.sets (row-as_is tables job row at) (run_number tables job row numbered at)).now (λ runs effect. false≢true runs))))
+      with-gone (Purged job) deck new refl follow (by-purged (Gone job) layout tables job deck follow (λ row at queued. gone-out job row at PurgedRun refl))
 
 -- the points that the jobs have to know they know behind an event
 pub points-stay : (layout : Layout) (tables : TablesModel) (event : Event) (deck : Option Job) (points : List PointView) (old new : List RunningStepView) → AllByRecursion IsAcceptedRow tables.runs → AreNumbered 1 tables.runs → AllByRecursion IsPlacedRow tables.runs

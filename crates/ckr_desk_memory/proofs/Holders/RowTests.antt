@@ -36,15 +36,6 @@ pub empty-is : {A : Type 0} (xs : List A) → is_empty xs ≡ true → xs ≡ []
 empty-is [] e = refl
 empty-is (first ∷ rest) e = absurd (false≢true e)
 
-pub released-holds : (state : RunState) → (state_number state == 4) ≡ true → is_holder state ≡ true
-released-holds Queued e = absurd (false≢true e)
-released-holds On e = refl
-released-holds HeldRun e = refl
-released-holds ReleasedRun e = refl
-released-holds EndedRun e = absurd (false≢true e)
-released-holds DeniedRun e = absurd (false≢true e)
-released-holds PurgedRun e = absurd (false≢true e)
-
 pub running-holds : (row : RunRow) → is_running row ≡ true → is_holder row.state ≡ true
 running-holds row runs = on-holds row.state (and-first (is_in_state On row) (is_within (place_of row)) runs)
 

@@ -1,26 +1,22 @@
 -- What an event does to a run: its selection, its start of a step, its release, its restart, its end, and that it leaves the queue.
-use Rattle.std.proofs.Common.{◌≡◌, ◌≤◌, ◌<◌, ℕ, Bool, true, false, ◌&&◌, ◌||◌, not, List, [], refl, ap, sym, ◌∙◌, subst, Option, Some, None}
+use Rattle.std.proofs.Common.{◌≡◌, ◌≤◌, ◌<◌, ℕ, true, false, List, [], refl, ap, sym, ◌∙◌, subst, Some, None}
 use Rattle.std.specs.List.{AllByRecursion}
-use Rattle.std.specs.Option.{is_some, option_map_or}
+use Rattle.std.specs.Option.{option_map_or}
 use Rattle.std.proofs.lemmas.Bool.{false≢true}
-use Rattle.ckr_base.proofs.Bools.{and-first, and-second, or-cases}
-use Rattle.ckr_base.proofs.Options.{is_some-true, option_map_or-true, some-not-none, some-one}
-use Rattle.ckr_events.specs.declared.event.Ending.{Ending}
-use Rattle.ckr_events.specs.declared.event.Ending.TheVariants.{Allocation, Coded, Completed}
+use Rattle.ckr_base.proofs.Options.{some-not-none, some-one}
 use Rattle.ckr_events.specs.declared.event.Made.{Made}
 use Rattle.ckr_library.specs.NameMaps.{Name, Named, entry_at, same_name}
 use Rattle.ckr_meaning.specs.Allotments.{opened_all}
 use Rattle.ckr_meaning.specs.Dispositions.{Stock, passed_ended}
 use Rattle.ckr_meaning.specs.EffectiveJob.{Effective, OwnedStep, flaws_in, is_among, names_of, placed_in, stamp_of}
-use Rattle.ckr_meaning.specs.declared.place.Place.{Place}
-use Rattle.ckr_meaning.specs.declared.place.Place.TheVariants.{Before, Opened, Within}
-use Rattle.ckr_points.specs.declared.run.RunState.TheVariants.{Queued, On, Released as ReleasedRun, Ended as EndedRun, Denied as DeniedRun, Purged as PurgedRun}
-use Rattle.ckr_points.specs.Follows.{is_empty, is_free, is_in_state, is_running, is_within, lengths_follow, may_hold, may_start, own_step, selected_follows, started_follows, ended_follows}
+use Rattle.ckr_meaning.specs.declared.place.Place.TheVariants.{Before, Within}
+use Rattle.ckr_points.specs.declared.run.RunState.TheVariants.{Queued, On, Released as ReleasedRun, Ended as EndedRun}
+use Rattle.ckr_points.specs.Follows.{is_in_state, is_within, may_hold, may_start, own_step}
 use Rattle.ckr_points.specs.Office.{is_holder, passed_made}
-use Rattle.ckr_points.specs.Marks.{has_passed, point_at, without_passed}
-use Rattle.ckr_points.specs.Restart.{after_abnormal, after_coded, after_ended, after_passed_ended, after_restarted, by_step, kept_at, place_of, step_in}
+use Rattle.ckr_points.specs.Marks.{has_passed, without_passed}
+use Rattle.ckr_points.specs.Restart.{after_passed_ended, place_of, step_in}
 use Rattle.ckr_points.specs.Rows.{RunRow, TableSet, TablesModel, run_of, standing_of, step_of_run, table_ways, with_run}
-use Rattle.ckr_points.specs.Tables.{after_cancelled, after_commit, after_dispositions, after_selected, after_started, earlier_made, own_made, run_disposals, start_point}
+use Rattle.ckr_points.specs.Tables.{after_cancelled, after_dispositions, after_selected, after_started, earlier_made, own_made, run_disposals, start_point}
 use Rattle.ckr_points.specs.RuleCases.{is_ended}
 use Rattle.ckr_points_invariant.proofs.Holders.Rows.{holder-ended}
 use Rattle.ckr_points_invariant.proofs.Library.PassedList.{ended-stays}
@@ -29,26 +25,27 @@ use Rattle.ckr_points_invariant.proofs.Marks.Points.{point_at-new}
 use Rattle.ckr_points_invariant.proofs.WrittenEntries.Sets.{EachHas, GoesOnThrough, committed-has, disposed_all-has, made_all-has, opened_all-has, passed_ended-has}
 use Rattle.ckr_desk_plans.specs.Model.Commit.{output_names}
 use Rattle.ckr_volumes.specs.declared.layout.Layout.{Layout}
-use Rattle.ckr_desk_memory.proofs.Holders.Moves.{HasRow, RunGoesOn, by-own, goes-through, row-as_is, row-next}
+use Rattle.ckr_desk_memory.proofs.Holders.Moves.{HasRow, RunGoesOn, goes-through, row-as_is, row-next}
 use Rattle.ckr_desk_memory.proofs.Holders.Names.{changed-named, names-outside}
 use Rattle.ckr_desk_memory.proofs.Holders.OwnEntries.{kept-weaker, own-as, passed-as, starts-own, steps-within}
 use Rattle.ckr_desk_memory.proofs.Holders.Sets.{disposed-outside, passed-outside, started-outside, there-started}
-use Rattle.ckr_desk_memory.proofs.Runs.{by-step}
-use Rattle.ckr_desk_memory.specs.Invariant.{IsAcceptedRow, IsPlacedRow, is_in_step}
-use Rattle.ckr_desk_memory.proofs.Invariant.{hand-in_step, in_step-holds, in_step-within, not-within, start-step, unplaced-queued}
+use Rattle.ckr_desk_memory.specs.Invariant.{IsAcceptedRow, IsPlacedRow}
+use Rattle.ckr_desk_memory.proofs.Invariant.{not-within, start-step, unplaced-queued}
 use Rattle.ckr_desk_memory.proofs.Starts.Steps.{row-among}
 use Rattle.ckr_desk_turn.specs.Queue.{AreNumbered}
 use Rattle.ckr_desk_turn.proofs.Queue.Events.{run_number}
 use Rattle.ckr_desk_memory.specs.Holders.{AreOwn, HasOwnEffect, HasStartPassed, IsStartPassed, PassesOnOwn, PassesOwn, changed_names, reached_names, steps_begun}
-use Rattle.ckr_desk_memory.proofs.Holders.RowTests.{by-some, empty-is, executes-step, no-effect, points-with, queued-free, queued-on, released-holds, running-holds, unlost}
-use Rattle.ckr_desk_memory.proofs.Holders.StepEvents.{behind, behind_outside, behind_rows, goes_back, restarted}
+use Rattle.ckr_desk_memory.proofs.Holders.RowTests.{empty-is, executes-step, no-effect, points-with, queued-free, queued-on, unlost}
+use Rattle.ckr_desk_memory.proofs.Holders.StepEvents.{behind, behind_outside, behind_rows}
+use Rattle.ckr_desk_memory.proofs.EventRows.{IsStarting, after_end_with, after_end_within}
+use Rattle.ckr_points.specs.declared.run.RunState.{RunState}
 
 module _ (tables : TablesModel) (rows : AllByRecursion IsAcceptedRow tables.runs) (numbered : AreNumbered 1 tables.runs) (placed : AllByRecursion IsPlacedRow tables.runs) (job : ℕ) (row : RunRow) (at : run_of tables job ≡ Some row) where
   abbrev Goes : TablesModel → Type 0
   Goes after = RunGoesOn tables after job
 
-  pub selected : (layout : Layout) (initiator step : ℕ) (id : Option Name) → selected_follows layout tables initiator 0 step id row ≡ true → Goes (after_selected row initiator tables)
-  selected layout initiator step id follow = record {
+  pub selected : (initiator : ℕ) → is_in_state Queued row ≡ true → may_hold tables row ≡ true → Goes (after_selected row initiator tables)
+  selected initiator queued may = record {
     row = row;
     next = record row { state = On; initiator = Some initiator; place = Some (Before 1) };
     row_at = at;
@@ -57,15 +54,15 @@ module _ (tables : TablesModel) (rows : AllByRecursion IsAcceptedRow tables.runs
     deck = refl;
     job_is = refl;
     from_is = refl;
-    on = queued-on row (and-first (is_in_state Queued row) _ (and-first (is_in_state Queued row && is_free layout tables initiator) _ (and-first (is_in_state Queued row && is_free layout tables initiator && may_hold tables row) _ follow)));
-    begins = λ was now. and-second (is_in_state Queued row && is_free layout tables initiator) (may_hold tables row) (and-first (is_in_state Queued row && is_free layout tables initiator && may_hold tables row) _ follow);
+    on = queued-on row queued;
+    begins = λ was now. may;
     start = λ begun own ends at. absurd (false≢true at);
-    own = λ begun set point its. record { first = its.first; begun = subst (λ place. point.step < steps_begun (option_map_or (λ place. place) place (Before 1))) (unplaced-queued row (and-first (is_in_state Queued row) _ (and-first (is_in_state Queued row && is_free layout tables initiator) _ (and-first (is_in_state Queued row && is_free layout tables initiator && may_hold tables row) _ follow))) (row-among IsPlacedRow tables job row placed at)) its.begun; passed = passed-as row _ refl its.passed; changes = its.changes };
+    own = λ begun set point its. record { first = its.first; begun = subst (λ place. point.step < steps_begun (option_map_or (λ place. place) place (Before 1))) (unplaced-queued row queued (row-among IsPlacedRow tables job row placed at)) its.begun; passed = passed-as row _ refl its.passed; changes = its.changes };
     kept = λ begun. goes-through tables.sets tables.sets _ (λ E through each. each);
     passed = λ begun own. record {
       passed = own.passed;
-      points = λ ends. own.points (queued-on row (and-first (is_in_state Queued row) _ (and-first (is_in_state Queued row && is_free layout tables initiator) _ (and-first (is_in_state Queued row && is_free layout tables initiator && may_hold tables row) _ follow))));
-      effect = λ effect is. no-effect own (queued-free row.state (and-first (is_in_state Queued row) _ (and-first (is_in_state Queued row && is_free layout tables initiator) _ (and-first (is_in_state Queued row && is_free layout tables initiator && may_hold tables row) _ follow)))) effect is;
+      points = λ ends. own.points (queued-on row queued);
+      effect = λ effect is. no-effect own (queued-free row.state queued) effect is;
     };
     still = λ was name. refl;
     outside = λ own name out. refl;
@@ -119,28 +116,22 @@ module _ (tables : TablesModel) (rows : AllByRecursion IsAcceptedRow tables.runs
     changed = λ has owned name holding within found among. absurd (false≢true (sym gone ∙ holding));
   }
 
-  pub purged : is_in_state Queued row ≡ true → Goes (with_run (record row { state = PurgedRun }) tables)
-  purged queued =
-      over (record row { state = PurgedRun }) tables row tables.sets (row-as_is tables job row at) refl refl refl refl (queued-on row queued) refl
+  -- a run that waits leaves the queue
+  pub gone : (state : RunState) → is_in_state Queued row ≡ true → is_holder state ≡ false → Goes (with_run (record row { state = state }) tables)
+  gone state queued free =
+      over (record row { state = state }) tables row tables.sets (row-as_is tables job row at) refl refl refl refl (queued-on row queued) free
       (λ own. record { passed = own.passed; points = λ ends. own.points (queued-on row queued); effect = λ effect is. no-effect own (queued-free row.state queued) effect is })
-      (λ started ends at. passed-as row (record row { state = PurgedRun }) refl (started (queued-on row queued) at)) refl refl (λ E through each. each) (λ was name. refl) (λ own name out. refl)
-
-  pub denied : is_in_state Queued row ≡ true → Goes (with_run (record row { state = DeniedRun }) tables)
-  denied queued =
-      over (record row { state = DeniedRun }) tables row tables.sets (row-as_is tables job row at) refl refl refl refl (queued-on row queued) refl
-      (λ own. record { passed = own.passed; points = λ ends. own.points (queued-on row queued); effect = λ effect is. no-effect own (queued-free row.state queued) effect is })
-      (λ started ends at. passed-as row (record row { state = DeniedRun }) refl (started (queued-on row queued) at)) refl refl (λ E through each. each) (λ was name. refl) (λ own name out. refl)
+      (λ started ends at. passed-as row (record row { state = state }) refl (started (queued-on row queued) at)) refl refl (λ E through each. each) (λ was name. refl) (λ own name out. refl)
 
   -- so it does the one that it starts
   ahead : {step : ℕ} → may_start step (place_of row) ≡ true → row.earlier_step ≤ step
   ahead {step} may = subst (λ n. row.earlier_step ≤ n) (start-step step (place_of row) may) (executes-step tables job row placed at)
 
-  pub started : (layout : Layout) (step : ℕ) (items : List Made) → started_follows layout tables step items row ≡ true → Goes (option_map_or (λ owned. after_started row owned step items tables) (step_of_run row step) tables)
-  started layout step items follow =
-      option_map_or-true (step_of_run row step) _ (and-second (is_in_state On row) _ follow)
-      (λ owned found passes.
-      by-some Goes (step_of_run row step) (λ owned. after_started row owned step items tables) tables owned found
-      (record {
+  pub started : (layout : Layout) (step : ℕ) (items : List Made) (owned : OwnedStep) → IsStarting layout tables job step items row owned → Goes (after_started row owned step items tables)
+  started layout step items owned its =
+      let placed_so = placed_in table_ways (standing_of row tables) row.job.root owned in
+      let holds = on-holds row.state its.on in
+      record {
         row = row;
         next = _;
         row_at = at;
@@ -149,33 +140,28 @@ module _ (tables : TablesModel) (rows : AllByRecursion IsAcceptedRow tables.runs
         deck = refl;
         job_is = refl;
         from_is = refl;
-        on = holder-ended row.state (on-holds row.state (and-first (is_in_state On row) _ follow));
+        on = holder-ended row.state holds;
         begins = λ was now. absurd (false≢true (sym was ∙ now));
         start = λ begun own ends at. record { start = _; at = point_at-new _ row.points; same = refl };
-        own = λ begun set point its.
-            starts-own row _ (start_point row step (opened_all table_ways (stamp_of owned step) (placed_in table_ways (standing_of row tables) row.job.root owned) tables.sets))
-            refl refl refl (and-first (may_start step (place_of row)) _ (and-first (may_start step (place_of row) && is_empty (flaws_in (placed_in table_ways (standing_of row tables) row.job.root owned))) _ passes)) refl
-            (begun (holder-ended row.state (on-holds row.state (and-first (is_in_state On row) _ follow)))) set point its;
+        own = λ begun set point was.
+            starts-own row _ (start_point row step (opened_all table_ways (stamp_of owned step) placed_so tables.sets)) refl refl refl its.ahead refl (begun (holder-ended row.state holds)) set point was;
         kept = λ begun.
             goes-through tables.sets (after_started row owned step items tables).sets _
-            (λ E through each.
-            made_all-has E through (stamp_of owned step) items (placed_in table_ways (standing_of row tables) row.job.root owned) _
-            (opened_all-has E through (stamp_of owned step) (placed_in table_ways (standing_of row tables) row.job.root owned) tables.sets each));
+            (λ E through each. made_all-has E through (stamp_of owned step) items placed_so _ (opened_all-has E through (stamp_of owned step) placed_so tables.sets each));
         passed = λ begun own. record {
           passed = own.passed;
           points = λ ends. points-with (λ point. AreOwn row point.passed) _ row.points own.passed (own.points ends);
-          effect = λ effect is. absurd (false≢true (sym (not-within step (place_of row) (and-first (may_start step (place_of row)) _ (and-first (may_start step (place_of row) && is_empty (flaws_in (placed_in table_ways (standing_of row tables) row.job.root owned))) _ passes))) ∙ (own.effect effect is).within));
+          effect = λ effect is. absurd (false≢true (sym (not-within step (place_of row) its.ahead) ∙ (own.effect effect is).within));
         };
-        still = λ was name. absurd (false≢true (sym was ∙ on-holds row.state (and-first (is_in_state On row) _ follow)));
-        outside = λ own name out. started-outside row owned step name (names-outside row step owned name (ahead (and-first (may_start step (place_of row)) _ (and-first (may_start step (place_of row) && is_empty (flaws_in (placed_in table_ways (standing_of row tables) row.job.root owned))) _ passes))) found out) items tables;
-        changed = λ has other name holding within its among.
-            let flawless = empty-is (flaws_in (placed_in table_ways (standing_of row tables) row.job.root owned)) (and-second (may_start step (place_of row)) _ (and-first (may_start step (place_of row) && is_empty (flaws_in (placed_in table_ways (standing_of row tables) row.job.root owned))) _ passes)) in
-            there-started row owned step items tables name flawless
-            (changed-named row.job.root owned name (subst (λ (owned : OwnedStep). is_among (changed_names row.job.root owned) name ≡ true) (some-one other owned (step_of_run row step) its found) among));
-      }))
+        still = λ was name. absurd (false≢true (sym was ∙ holds));
+        outside = λ own name out. started-outside row owned step name (names-outside row step owned name (ahead its.ahead) its.found out) items tables;
+        changed = λ has other name holding within found among.
+            there-started row owned step items tables name (empty-is (flaws_in placed_so) its.flawless)
+            (changed-named row.job.root owned name (subst (λ (owned : OwnedStep). is_among (changed_names row.job.root owned) name ≡ true) (some-one other owned (step_of_run row step) found its.found) among));
+      }
 
   -- a run that stays as it is
-  unmoved : is_ended row.state ≡ false → Goes tables
+  pub unmoved : is_ended row.state ≡ false → Goes tables
   unmoved on = record {
     row = row;
     next = row;
@@ -224,19 +210,9 @@ module _ (tables : TablesModel) (rows : AllByRecursion IsAcceptedRow tables.runs
     changed = λ has owned name holding within found among. has owned name holds within found among;
   }
 
-  pub restarts : (initiator : ℕ) (checkpoint : Bool) → is_in_step row ≡ true → Goes (by_step (λ owned step. after_restarted row owned step initiator checkpoint tables) row tables)
-  restarts initiator true inside =
-      by-step Goes tables (own_step row) _ (unmoved (holder-ended row.state (in_step-holds row inside)))
-      (λ owned found.
-      by-step Goes tables row.in_effect _ (unmoved (holder-ended row.state (in_step-holds row inside)))
-      (λ effect now. by-step Goes tables (kept_at tables.sets effect.set effect.kept.id) _ (unmoved (holder-ended row.state (in_step-holds row inside))) (λ entry kept. goes_back tables rows numbered placed job row at owned found initiator effect entry now kept inside)))
-  restarts initiator false inside =
-      by-step Goes tables (own_step row) _ (unmoved (holder-ended row.state (in_step-holds row inside)))
-      (λ owned found. by-step Goes tables (point_at row.points (step_in (place_of row))) _ (unmoved (holder-ended row.state (in_step-holds row inside))) (λ point began. restarted tables rows numbered placed job row at owned found initiator point began (in_step-holds row inside) (in_step-within row inside)))
-
   -- ---- the end of a run
 
-  completed : is_holder row.state ≡ true → Goes (after_passed_ended row tables)
+  pub completed : is_holder row.state ≡ true → Goes (after_passed_ended row tables)
   completed holds =
       over (record row { state = EndedRun; initiator = None; code = None; passed = []; lost = []; in_effect = None }) tables row (passed_ended (has_passed row) tables.sets) (row-as_is tables job row at) refl refl refl refl (holder-ended row.state holds) refl
       (λ own. record { passed = λ name out. refl; points = λ ends. absurd (false≢true (sym ends)); effect = λ effect is. absurd (some-not-none effect (sym is)) })
@@ -244,16 +220,11 @@ module _ (tables : TablesModel) (rows : AllByRecursion IsAcceptedRow tables.runs
       (λ was name. absurd (false≢true (sym was ∙ holds)))
       (λ own name out. ended-stays row.lost row.passed tables.sets name (λ here. unlost row.lost row.passed name here (own name out)))
 
-  abbrev disposed_end : RunRow → TablesModel → ℕ → OwnedStep → TablesModel
-  disposed_end r mid step owned =
-      let done = after_dispositions r owned step true mid in
-      after_passed_ended (record r { passed = done.passed }) (record mid { sets = done.sets })
-
   -- with the dispositions of a step, by tables behind its lengths or as they are
   disposed_over : (r was : RunRow) (mid : TablesModel) (owned : OwnedStep) (step : ℕ) → is_holder row.state ≡ true → r.number ≡ row.number → r.deck ≡ row.deck → r.job ≡ row.job → r.earlier_step ≡ row.earlier_step → r.passed ≡ row.passed → r.lost ≡ row.lost → r.points ≡ row.points → steps_begun (place_of r) ≡ steps_begun (place_of row)
       → ((E : Name → TableSet → Type 0) → GoesOnThrough E → EachHas E tables.sets → EachHas E mid.sets) → HasRow tables mid job was → step_of_run row step ≡ Some owned → row.earlier_step ≤ step
       → ((name : Name) → is_among (reached_names row) name ≡ false → entry_at mid.sets name ≡ entry_at tables.sets name)
-      → Goes (disposed_end r mid step owned)
+      → Goes (after_end_within r owned step mid)
   disposed_over r was mid owned step holds number deck same from_is passed lost points begun through has found ahead outside =
       over (record r { passed = []; lost = []; state = EndedRun; initiator = None; code = None; in_effect = None }) mid was (passed_ended (without_passed r.lost done.passed) done.sets) has number deck same from_is (holder-ended row.state holds) refl
       (λ own. record { passed = λ name out. refl; points = λ ends. absurd (false≢true (sym ends)); effect = λ effect is. absurd (some-not-none effect (sym is)) })
@@ -274,35 +245,11 @@ module _ (tables : TablesModel) (rows : AllByRecursion IsAcceptedRow tables.runs
       done : Stock TableSet
       done = after_dispositions r owned step true mid
 
-  abnormal : (place : Place) → place_of row ≡ place → is_holder row.state ≡ true → is_some (own_step row) ≡ true → Goes (after_abnormal row place tables)
-  abnormal (Before step) stands holds some = completed holds
-  abnormal (Opened step) stands holds some = completed holds
-  abnormal (Within step writes) stands holds some =
-      is_some-true (own_step row) some
-      (λ owned found.
-      let there : step_of_run row step ≡ Some owned = ap (λ place. step_of_run row (step_in place)) (sym stands) ∙ found in
-      by-some Goes (step_of_run row step) (disposed_end row tables step) tables owned there
-      (disposed_over row row tables owned step holds refl refl refl refl refl refl refl refl (λ E through each. each) (row-as_is tables job row at) there (subst (λ place. row.earlier_step ≤ step_in place) stands (executes-step tables job row placed at)) (λ name out. refl)))
+  pub refused : (owned : OwnedStep) → own_step row ≡ Some owned → is_holder row.state ≡ true → Goes (after_end_within row owned (step_in (place_of row)) tables)
+  refused owned found holds =
+      disposed_over row row tables owned (step_in (place_of row)) holds refl refl refl refl refl refl refl refl (λ E through each. each) (row-as_is tables job row at) found (executes-step tables job row placed at) (λ name out. refl)
 
-  coded : (writes : ℕ) (lengths : List ℕ) → is_holder row.state ≡ true → is_within (place_of row) ≡ true → is_some (own_step row) ≡ true → Goes (after_coded row writes lengths tables)
-  coded writes lengths holds within some =
-      is_some-true (own_step row) some
-      (λ owned found.
-      by-own Goes tables (λ owned step. after_abnormal (record row { place = Some (Within step writes) }) (Within step writes) (after_commit row owned step writes lengths tables)) row owned found
-      (by-some Goes (step_of_run row (step_in (place_of row))) (disposed_end (record row { place = Some (Within (step_in (place_of row)) writes) }) (behind tables row owned writes lengths) (step_in (place_of row))) (behind tables row owned writes lengths) owned found
-      (disposed_over (record row { place = Some (Within (step_in (place_of row)) writes) }) _ (behind tables row owned writes lengths) owned (step_in (place_of row)) holds refl refl refl refl refl refl refl (sym (steps-within (place_of row) within)) (λ E through each. committed-has E through (output_names row.job.root owned) lengths tables.sets each) (behind_rows tables rows numbered placed job row at owned found writes lengths) found (executes-step tables job row placed at) (behind_outside tables rows numbered placed job row at owned found lengths))))
-
-  lengths_some : (lengths : List ℕ) → lengths_follow tables row lengths ≡ true → is_some (own_step row) ≡ true
-  lengths_some lengths follow = option_map_or-true (own_step row) _ follow (λ owned found passes. ap is_some found)
-
-  pub ended : (ending : Ending) → ended_follows tables row ending ≡ true → Goes (after_ended row ending tables)
-  ended Completed follow =
-      completed (on-holds row.state (and-first (is_in_state On row) _ (and-first (is_in_state On row && not (is_within (place_of row))) _ follow)))
-  ended (Coded code rule writes lengths) follow =
-      coded writes lengths.items
-      (or-cases (is_running row) (is_in_state ReleasedRun row) (and-first (is_running row || is_in_state ReleasedRun row) _ follow) (running-holds row) (released-holds row.state))
-      (in_step-within row (hand-in_step row (and-first (is_running row || is_in_state ReleasedRun row) _ follow) (row-among IsPlacedRow tables job row placed at)))
-      (lengths_some lengths.items (and-second (is_running row || is_in_state ReleasedRun row) _ follow))
-  ended (Allocation dd cause first second) follow =
-      abnormal (place_of row) refl (on-holds row.state (and-first (is_in_state On row) _ follow))
-      (option_map_or-true (own_step row) _ (and-second (is_in_state On row) _ follow) (λ owned found passes. ap is_some found))
+  pub coded : (owned : OwnedStep) → own_step row ≡ Some owned → (writes : ℕ) (lengths : List ℕ) → is_holder row.state ≡ true → is_within (place_of row) ≡ true → Goes (after_end_with row owned writes lengths tables)
+  coded owned found writes lengths holds within =
+      disposed_over (record row { place = Some (Within (step_in (place_of row)) writes) }) _ (behind tables row owned writes lengths) owned (step_in (place_of row)) holds refl refl refl refl refl refl refl (sym (steps-within (place_of row) within))
+      (λ E through each. committed-has E through (output_names row.job.root owned) lengths tables.sets each) (behind_rows tables rows numbered placed job row at owned found writes lengths) found (executes-step tables job row placed at) (behind_outside tables rows numbered placed job row at owned found lengths)

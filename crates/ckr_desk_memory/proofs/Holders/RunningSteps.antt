@@ -2,13 +2,13 @@
 use Rattle.std.proofs.Common.{arith, ◌≡◌, ◌≢◌, ◌≤◌, ◌+◌, ◌==◌, ℕ, zero, suc, Bool, true, false, cond, not, ◌&&◌, List, [], ◌∷◌, refl, ap, sym, ◌∙◌, subst, Option, Some, None}
 use Rattle.std.specs.Prelude.{find}
 use Rattle.std.specs.List.{AllByRecursion}
-use Rattle.std.specs.Option.{is_none, is_some, option_map_or}
+use Rattle.std.specs.Option.{is_none, option_map_or}
 use Rattle.std.proofs.lemmas.Bool.{false≢true}
 use Rattle.arrayvec.specs.ArrayVec.{ArrayVec}
 use Rattle.ckr_base.specs.declared.record.Rec.{Rec}
-use Rattle.ckr_base.proofs.Bools.{and-first, and-second}
+use Rattle.ckr_base.proofs.Bools.{and-first}
 use Rattle.ckr_base.proofs.Numbers.{equal-false, equal-true, number-cases}
-use Rattle.ckr_base.proofs.Options.{option_map_or-true, some-one}
+use Rattle.ckr_base.proofs.Options.{some-one}
 use Rattle.ckr_base.proofs.Sequences.{each-implies, find-holds, find-passes}
 use Rattle.ckr_events.specs.Jobs.{job_of}
 use Rattle.ckr_events.specs.declared.event.Event.{Event}
@@ -18,21 +18,17 @@ use Rattle.ckr_jcl.specs.declared.deck.Job.{Job}
 use Rattle.ckr_library.specs.Catalog.{records_of}
 use Rattle.ckr_library.specs.NameMaps.{Name, entry_at}
 use Rattle.ckr_library.specs.declared.sets.Kept.{Kept}
-use Rattle.ckr_points.specs.declared.run.RunState.TheVariants.{Queued, On, Held as HeldRun}
-use Rattle.ckr_points.specs.Follows.{follows, is_checkpoint, is_free, is_in_state, is_length_of, is_running, lengths_follow, may_hold, of_step, own_step, selected_follows, started_follows, state_number}
+use Rattle.ckr_points.specs.declared.run.RunState.TheVariants.{Queued, Held as HeldRun}
+use Rattle.ckr_points.specs.Follows.{follows, is_checkpoint, is_in_state, is_length_of, state_number}
 use Rattle.ckr_points.specs.Restart.{after_event, by_step, kept_at, place_of, step_in}
-use Rattle.ckr_points.specs.Rows.{RunRow, TableSet, TablesModel, run_of, step_of_run}
+use Rattle.ckr_points.specs.Rows.{RunRow, TableSet, TablesModel, run_of}
 use Rattle.ckr_points.specs.Tables.{after_cancelled, after_checkpointed, after_rewritten, after_started, after_submitted, is_checkpoints, name_with_role}
-use Rattle.ckr_points_invariant.proofs.WaitingRuns.{tested-run}
 use Rattle.ckr_desk_plans.specs.Model.Commit.{output_names}
 use Rattle.ckr_points_tables.specs.Checkpoint.{checkpoint_name}
 use Rattle.ckr_points_tables.specs.Invariant.{MaySubmit, is_submission}
 use Rattle.ckr_volumes.specs.declared.layout.Layout.{Layout}
-use Rattle.ckr_desk_memory.proofs.Extents.{tested as tested-of, tested-step}
 use Rattle.ckr_desk_memory.proofs.Holders.Checkpoints.{check-behind, running-entered}
-use Rattle.ckr_desk_memory.proofs.Holders.Continuations.{continued-goes}
 use Rattle.ckr_desk_memory.proofs.Holders.Events.{any-goes, holders-stay}
-use Rattle.ckr_desk_memory.proofs.Holders.RowTests.{by-some}
 use Rattle.ckr_desk_memory.proofs.Holders.Submissions.{row-more}
 use Rattle.ckr_desk_memory.proofs.Holders.Moves.{by-own, by-row, row-as_is, row-next}
 use Rattle.ckr_desk_memory.proofs.Holders.OwnSets.{running-again, running-new, running-other, running-rewritten, running-same, running-served}
@@ -53,6 +49,8 @@ use Rattle.ckr_desk_plans.specs.Model.Units.{program_of}
 use Rattle.ckr_base.specs.declared.code.Code.{Code}
 use Rattle.ckr_desk_memory.specs.OwnSets.{AreUpTo, CommitsItsOwn, IsCommitted, IsCommittedWith, IsOfOther, IsRunningOf}
 use Rattle.ckr_desk_memory.proofs.RunningSteps.First.{all-without}
+use Rattle.ckr_desk_memory.proofs.EventRows.{IsStarting, by-denied, by-purged, by-released, by-started, row-checked, row-selected}
+use Rattle.ckr_meaning.specs.EffectiveJob.{OwnedStep}
 
 -- ---- lists of running steps
 
@@ -84,6 +82,10 @@ module _ (layout : Layout) (tables : TablesModel) (are : AreHolders tables) (row
   all-steps event deck other follow own old all =
       each-implies (IsRunningOf tables) (IsRunningOf (after_event event deck tables)) old
       (λ on is. number-cases on.run (job_of event) (λ here. own on here is) (λ apart. other-steps event deck other follow on apart is)) all
+
+  -- those of the others
+  left-steps : (event : Event) (deck : Option Job) → is_submission event ≡ false → follows layout tables event deck ≡ true → (old : List RunningStepView) → AllByRecursion (IsRunningOf tables) old → AllByRecursion (IsRunningOf (after_event event deck tables)) (without_run (job_of event) old)
+  left-steps event deck other follow old all = each-without_run (IsRunningOf tables) (IsRunningOf (after_event event deck tables)) (job_of event) old (other-steps event deck other follow) all
 
   its_row : (job : ℕ) (on : RunningStepView) → on.run ≡ job → (is : IsRunningOf tables on) → run_of tables job ≡ Some is.row
   its_row job on here is = ap (run_of tables) (sym here) ∙ is.row_at
@@ -126,19 +128,12 @@ module _ (layout : Layout) (tables : TablesModel) (are : AreHolders tables) (row
   StartsWell job step old new after =
       StepStarts job step after old new → AreHolders after → AllByRecursion (IsRunningOf after) (without_run job old) → AllByRecursion (IsRunningOf after) new
 
-  started : (job step : ℕ) (items : List Made) (old new : List RunningStepView) (row : RunRow) → run_of tables job ≡ Some row → started_follows layout tables step items row ≡ true → StartsWell job step old new (option_map_or (λ owned. after_started row owned step items tables) (step_of_run row step) tables)
-  started job step items old new row at follow =
-      option_map_or-true (step_of_run row step) _ (and-second (is_in_state On row) _ follow)
-      (λ owned found passes.
-      by-some (StartsWell job step old new) (step_of_run row step) (λ owned. after_started row owned step items tables) tables owned found
-      (λ starts holders others.
+  started : (job step : ℕ) (items : List Made) (old new : List RunningStepView) (row : RunRow) (owned : OwnedStep) → IsStarting layout tables job step items row owned → StartsWell job step old new (after_started row owned step items tables)
+  started job step items old new row owned its starts holders others =
       let after : TablesModel = after_started row owned step items tables in
-      let now = (row-next tables tables job row _ after.sets (row-as_is tables job row at) (run_number tables job row numbered at)).now in
-      let new_one : HasNew job row.job.root owned (begun row.job.root owned) after.sets old new = starts _ owned now found in
-      subst (AllByRecursion (IsRunningOf after)) (sym new_one.first) (
-        running-new after job _ owned old new now (on-is row.state (and-first (is_in_state On row) _ follow)) refl found holders new_one,
-        others,
-      )))
+      let now = (row-next tables tables job row _ after.sets (row-as_is tables job row its.row_at) (run_number tables job row numbered its.row_at)).now in
+      let new_one : HasNew job row.job.root owned (begun row.job.root owned) after.sets old new = starts _ owned now its.found in
+      subst (AllByRecursion (IsRunningOf after)) (sym new_one.first) (running-new after job _ owned old new now (on-is row.state its.on) refl its.found holders new_one, others)
 
   rewritten : (job taken writes : ℕ) (lengths : ArrayVec ℕ) (place : ℕ) (image : Rec) (deck : Option Job) → follows layout tables (Rewritten job taken writes lengths place image) deck ≡ true → (on : RunningStepView) → on.run ≡ job → IsRunningOf tables on → IsCommitted job lengths.items tables on → IsRunningOf (after_event (Rewritten job taken writes lengths place image) deck tables) on
   rewritten job taken writes lengths place image deck follow on here is commits =
@@ -178,11 +173,7 @@ module _ (layout : Layout) (tables : TablesModel) (are : AreHolders tables) (row
       number = run_number tables on.run is.row numbered is.row_at
 
       checks : is_checkpoint tables id lengths.items place bytes is.row is.owned ≡ true
-      checks =
-          tested-step (own_step is.row) (is_checkpoint tables id lengths.items place bytes is.row)
-          (and-second (is_running is.row && lengths_follow tables is.row lengths.items) _
-          (tested-of tables job (λ row. is_running row && lengths_follow tables row lengths.items && of_step row (is_checkpoint tables id lengths.items place bytes row)) follow is.row at))
-          is.owned is.found
+      checks = row-checked layout tables job deck taken writes place bytes id lengths follow is.row is.owned at is.found
 
       -- the entry begins where its data set ends
       low : (table : TableSet) → entry_at tables.sets set ≡ Some table → table.set.length ≤ most
@@ -248,9 +239,7 @@ module _ (layout : Layout) (tables : TablesModel) (are : AreHolders tables) (row
   taken job initiator before step id deck points old new follow knows all goes =
       let after : TablesModel = after_event (Selected job initiator (suc before) step (Some id)) deck tables in
       let over = is-taken layout tables job initiator before step id deck numbered follow in
-      let others : AllByRecursion (IsRunningOf after) (without_run job old) =
-      each-without_run (IsRunningOf tables) (IsRunningOf after) job old
-      (λ on apart is. running-other tables after job (continued-goes layout tables numbered placed are job initiator before step (Some id) deck follow) rows numbered placed are on is apart) all in
+      let others : AllByRecursion (IsRunningOf after) (without_run job old) = left-steps (Selected job initiator (suc before) step (Some id)) deck refl follow old all in
       again-cases after job over.next over.owned points old new over.next_at over.found goes
       (λ gone. subst (AllByRecursion (IsRunningOf after)) (sym gone) others)
       (λ point is new_one.
@@ -266,11 +255,7 @@ module _ (layout : Layout) (tables : TablesModel) (are : AreHolders tables) (row
       → AllByRecursion (IsRunningOf tables) old → AllByRecursion (IsRunningOf (after_event (Selected job initiator earlier step id) deck tables)) old
   selected job initiator earlier step id deck old follow all =
       all-steps (Selected job initiator earlier step id) deck refl follow
-      (λ on here is.
-      tested-run tables job (selected_follows layout tables initiator earlier step id) follow
-      (λ row at passes.
-      not_queued job on here is row at
-      (and-first (is_in_state Queued row) (is_free layout tables initiator) (and-first (is_in_state Queued row && is_free layout tables initiator) (may_hold tables row) (and-first (is_in_state Queued row && is_free layout tables initiator && may_hold tables row) _ passes))))) old all
+      (λ on here is. row-selected layout tables job deck initiator earlier step id follow (λ row its. not_queued job on here is row its.row_at its.queued)) old all
 
   stay : (event : Event) (deck : Option Job) (points : List PointView) (old new : List RunningStepView) → follows layout tables event deck ≡ true → AreHolders (after_event event deck tables) → AllByRecursion (IsRunningOf tables) old → HavePoints tables points
       → KnowsItsPoint event tables points → CommitsItsOwn event tables old → GoesOn event (after_event event deck tables) points old new → AllByRecursion (IsRunningOf (after_event event deck tables)) new
@@ -286,14 +271,9 @@ module _ (layout : Layout) (tables : TablesModel) (are : AreHolders tables) (row
   stay (Denied job rule name) deck points old new follow holders all known knows commits goes =
       subst (AllByRecursion (IsRunningOf (after_event (Denied job rule name) deck tables))) (sym goes)
       (all-steps (Denied job rule name) deck refl follow
-      (λ on here is.
-      tested-run tables job (λ row. is_in_state Queued row && is_some row.deck.restart) follow (λ row at passes. not_queued job on here is row at (and-first (is_in_state Queued row) _ passes))) old all)
+      (λ on here is. by-denied (λ after. IsRunningOf after on) layout tables job deck rule name follow (λ row at queued. not_queued job on here is row at queued)) old all)
   stay (Started job step items) deck points old new follow holders all known knows commits goes =
-      tested-run tables job (started_follows layout tables step items.items) follow
-      (λ row at passes.
-      by-row (StartsWell job step old new) tables job (λ row. option_map_or (λ owned. after_started row owned step items.items tables) (step_of_run row step) tables) row at
-      (started job step items.items old new row at passes) goes holders
-      (each-without_run (IsRunningOf tables) (IsRunningOf (after_event (Started job step items) deck tables)) job old (other-steps (Started job step items) deck refl follow) all))
+      by-started (StartsWell job step old new) layout tables job deck step items follow (started job step items.items old new) goes holders (left-steps (Started job step items) deck refl follow old all)
   stay (Rewritten job taken writes lengths place image) deck points old new follow holders all known knows commits goes =
       subst (AllByRecursion (IsRunningOf (after_event (Rewritten job taken writes lengths place image) deck tables))) (sym goes)
       (each-both (IsRunningOf tables) (IsRunningOf (after_event (Rewritten job taken writes lengths place image) deck tables)) (IsCommitted job lengths.items tables) old
@@ -305,28 +285,21 @@ module _ (layout : Layout) (tables : TablesModel) (are : AreHolders tables) (row
   stay (Cancelled job) deck points old new follow holders all known knows commits goes =
       subst (AllByRecursion (IsRunningOf (after_event (Cancelled job) deck tables))) (sym goes) (served job deck old follow all)
   stay (StepEnded job step rc writes lengths) deck points old new follow holders all known knows commits goes =
-      subst (AllByRecursion (IsRunningOf (after_event (StepEnded job step rc writes lengths) deck tables))) (sym goes)
-      (each-without_run (IsRunningOf tables) (IsRunningOf (after_event (StepEnded job step rc writes lengths) deck tables)) job old (other-steps (StepEnded job step rc writes lengths) deck refl follow) all)
+      subst (AllByRecursion (IsRunningOf (after_event (StepEnded job step rc writes lengths) deck tables))) (sym goes) (left-steps (StepEnded job step rc writes lengths) deck refl follow old all)
   stay (Restarted job initiator code true) deck points old new follow holders all known knows commits goes =
-      again job initiator code deck points old new follow known goes
-      (each-without_run (IsRunningOf tables) (IsRunningOf (after_event (Restarted job initiator code true) deck tables)) job old (other-steps (Restarted job initiator code true) deck refl follow) all)
+      again job initiator code deck points old new follow known goes (left-steps (Restarted job initiator code true) deck refl follow old all)
   stay (Restarted job initiator code false) deck points old new follow holders all known knows commits goes =
-      subst (AllByRecursion (IsRunningOf (after_event (Restarted job initiator code false) deck tables))) (sym goes)
-      (each-without_run (IsRunningOf tables) (IsRunningOf (after_event (Restarted job initiator code false) deck tables)) job old (other-steps (Restarted job initiator code false) deck refl follow) all)
+      subst (AllByRecursion (IsRunningOf (after_event (Restarted job initiator code false) deck tables))) (sym goes) (left-steps (Restarted job initiator code false) deck refl follow old all)
   stay (Held job code writes lengths) deck points old new follow holders all known knows commits goes =
-      subst (AllByRecursion (IsRunningOf (after_event (Held job code writes lengths) deck tables))) (sym goes)
-      (each-without_run (IsRunningOf tables) (IsRunningOf (after_event (Held job code writes lengths) deck tables)) job old (other-steps (Held job code writes lengths) deck refl follow) all)
+      subst (AllByRecursion (IsRunningOf (after_event (Held job code writes lengths) deck tables))) (sym goes) (left-steps (Held job code writes lengths) deck refl follow old all)
   stay (Released job) deck points old new follow holders all known knows commits goes =
       subst (AllByRecursion (IsRunningOf (after_event (Released job) deck tables))) (sym goes)
-      (all-steps (Released job) deck refl follow
-      (λ on here is. tested-run tables job (is_in_state HeldRun) follow (λ row at held. not_held job on here is row at held)) old all)
+      (all-steps (Released job) deck refl follow (λ on here is. by-released (λ after. IsRunningOf after on) layout tables job deck follow (λ row at held. not_held job on here is row at held)) old all)
   stay (Ended job ending) deck points old new follow holders all known knows commits goes =
-      subst (AllByRecursion (IsRunningOf (after_event (Ended job ending) deck tables))) (sym goes)
-      (each-without_run (IsRunningOf tables) (IsRunningOf (after_event (Ended job ending) deck tables)) job old (other-steps (Ended job ending) deck refl follow) all)
+      subst (AllByRecursion (IsRunningOf (after_event (Ended job ending) deck tables))) (sym goes) (left-steps (Ended job ending) deck refl follow old all)
   stay (Purged job) deck points old new follow holders all known knows commits goes =
       subst (AllByRecursion (IsRunningOf (after_event (Purged job) deck tables))) (sym goes)
-      (all-steps (Purged job) deck refl follow
-      (λ on here is. tested-run tables job (is_in_state Queued) follow (λ row at queued. not_queued job on here is row at queued)) old all)
+      (all-steps (Purged job) deck refl follow (λ on here is. by-purged (λ after. IsRunningOf after on) layout tables job deck follow (λ row at queued. not_queued job on here is row at queued)) old all)
 
 -- the running steps stay those of their runs
 pub running-stay : (layout : Layout) (tables : TablesModel) (event : Event) (deck : Option Job) (points : List PointView) (old new : List RunningStepView) → AreHolders tables → AllByRecursion IsAcceptedRow tables.runs → AreNumbered 1 tables.runs → AllByRecursion IsPlacedRow tables.runs → IsAnyAccepted event deck → MaySubmit event deck → follows layout tables event deck ≡ true

@@ -1,8 +1,8 @@
 -- A run that is restarted at its checkpoint: its row, and its step that goes on from its point.
-use Rattle.std.proofs.Common.{◌≡◌, ◌&&◌, ◌||◌, ℕ, Bool, true, false, List, find, refl, Option, None, Some}
-use Rattle.std.specs.Prelude.{IsSome, nat_eq, nat_lt}
+use Rattle.std.proofs.Common.{◌≡◌, ℕ, Bool, true, false, List, find, refl, Option, None, Some}
+use Rattle.std.specs.Prelude.{IsSome, nat_lt}
 use Rattle.std.specs.List.{AllByRecursion}
-use Rattle.std.specs.Option.{is_some, option_eq, option_map_or}
+use Rattle.std.specs.Option.{is_some, option_map_or}
 use Rattle.std.proofs.lemmas.Bool.{false≢true}
 use Rattle.ckr_base.specs.declared.code.Code.{Code}
 use Rattle.ckr_base.proofs.Bools.{and-first, and-second}
@@ -11,11 +11,11 @@ use Rattle.ckr_jcl.specs.declared.deck.Job.{Job}
 use Rattle.ckr_meaning.specs.EffectiveJob.{OwnedStep, names_of}
 use Rattle.ckr_meaning.specs.declared.place.Place.{Place}
 use Rattle.ckr_meaning.specs.declared.place.Place.TheVariants.{Before, Opened, Within}
-use Rattle.ckr_points.specs.declared.run.RunState.TheVariants.{On, Released}
-use Rattle.ckr_points.specs.Follows.{follows, is_free, is_in_state, is_running, is_within, may_restart_again, own_step}
+use Rattle.ckr_points.specs.declared.run.RunState.TheVariants.{On}
+use Rattle.ckr_points.specs.Follows.{follows, is_in_state, is_within, may_restart_again, own_step}
 use Rattle.ckr_points.specs.Marks.{put_back}
 use Rattle.ckr_desk_plans.specs.Model.Commit.{output_names}
-use Rattle.ckr_points.specs.Restart.{after_event, after_restarted, by_step, kept_at, place_of, step_in}
+use Rattle.ckr_points.specs.Restart.{after_event, kept_at, place_of, step_in}
 use Rattle.ckr_points.specs.Rows.{EffectPoint, RunRow, TablesModel, run_of, step_of_run}
 use Rattle.ckr_volumes.specs.declared.layout.Layout.{Layout}
 use Rattle.ckr_desk_turn.specs.Queue.{AreNumbered}
@@ -25,11 +25,12 @@ use Rattle.ckr_desk_memory.specs.Invariant.{IsAnyPlaceOf, IsPlacedRow, is_in_ste
 use Rattle.ckr_desk_memory.specs.RunningSteps.{GoesFrom, StepGoesBack, may_go_back}
 use Rattle.ckr_desk_memory.specs.Start.{HasNew, has_sets}
 use Rattle.ckr_desk_memory.specs.View.{PointView, RunningStepView, resumed}
-use Rattle.ckr_desk_memory.proofs.Holders.Moves.{by-row, row-as_is, row-next}
-use Rattle.ckr_desk_memory.proofs.Invariant.{in_step-within, restarts-in_step}
-use Rattle.ckr_desk_memory.proofs.Queue.{on-is, run-there}
+use Rattle.ckr_desk_memory.proofs.Holders.Moves.{row-as_is, row-next}
+use Rattle.ckr_desk_memory.proofs.Invariant.{in_step-within, hand-in_step}
+use Rattle.ckr_desk_memory.proofs.Queue.{on-is}
 use Rattle.ckr_desk_memory.proofs.Runs.{by-step}
 use Rattle.ckr_desk_memory.proofs.Starts.Steps.{row-among}
+use Rattle.ckr_desk_memory.proofs.EventRows.{by-restarted}
 
 -- ---- the row of the run
 
@@ -71,28 +72,27 @@ in_effect_of row again = by row.in_effect again
 pub is-back : (layout : Layout) (tables : TablesModel) (job initiator : ℕ) (code : Code) (deck : Option Job) → AreNumbered 1 tables.runs → AllByRecursion IsPlacedRow tables.runs → follows layout tables (Restarted job initiator code true) deck ≡ true
     → IsBack tables (after_event (Restarted job initiator code true) deck tables) job
 is-back layout tables job initiator code deck numbered placed follow =
-    let there = run-there tables job (λ row. (is_running row && option_eq nat_eq row.initiator (Some initiator) || is_in_state Released row && is_free layout tables initiator) && may_restart_again true row) follow in
-    let row = there.0 in
-    let is = row-among IsPlacedRow tables job row placed there.1 in
-    let inside = restarts-in_step layout tables initiator true row is there.2 in
+    by-restarted (λ after. IsBack tables after job) layout tables job deck initiator code true follow
+    (λ row its.
+    let is = row-among IsPlacedRow tables job row placed its.row_at in
+    let inside = hand-in_step row its.hand is in
     let owned = step-of-within row is (in_step-within row inside) in
-    let effect = in_effect_of row (and-second (is_running row && option_eq nat_eq row.initiator (Some initiator) || is_in_state Released row && is_free layout tables initiator) _ there.2) in
+    let effect = in_effect_of row its.again in
     let Back : TablesModel → Type 0 = λ after. IsBack tables after job in
     let same : Back tables = record {
       row = row;
       owned = owned.0;
       next = row;
-      row_at = there.1;
+      row_at = its.row_at;
       inside = inside;
       effect = effect;
       was = owned.1;
-      next_at = there.1;
+      next_at = its.row_at;
       within = in_step-within row inside;
       found = owned.1;
       job_is = refl;
     } in
-    by-row Back tables job (λ row. by_step (λ owned step. after_restarted row owned step initiator true tables) row tables) row there.1
-    (by-step Back tables (own_step row) _ same
+    by-step Back tables (own_step row) _ same
     (λ own found.
     by-step Back tables row.in_effect _ same
     (λ effect_now now.
@@ -101,11 +101,11 @@ is-back layout tables job initiator code deck numbered placed follow =
       row = row;
       owned = owned.0;
       next = _;
-      row_at = there.1;
+      row_at = its.row_at;
       inside = inside;
       effect = effect;
       was = owned.1;
-      next_at = (row-next tables tables job row _ (put_back entry.point.marks (output_names row.job.root own) (names_of row.job.root own) tables.sets) (row-as_is tables job row there.1) (run_number tables job row numbered there.1)).now;
+      next_at = (row-next tables tables job row _ (put_back entry.point.marks (output_names row.job.root own) (names_of row.job.root own) tables.sets) (row-as_is tables job row its.row_at) (run_number tables job row numbered its.row_at)).now;
       within = refl;
       found = owned.1;
       job_is = refl;

@@ -1,11 +1,10 @@
 -- The running steps go on by an event.
-use Rattle.std.proofs.Common.{◌≡◌, ◌==◌, ◌≤◌, ◌<◌, ◌+◌, ◌&&◌, ◌||◌, ℕ, zero, suc, true, false, not, List, map, length, refl, ap, sym, ◌∙◌, subst, Option, None, Some, arith, slice_get}
+use Rattle.std.proofs.Common.{◌≡◌, ◌==◌, ◌≤◌, ◌<◌, ◌+◌, ℕ, zero, suc, true, false, not, List, map, length, refl, ap, sym, ◌∙◌, subst, Option, None, Some, arith, slice_get}
 use Rattle.std.proofs.lemmas.Option.{same_Some, slice_get-map, slice_get_within}
 use Rattle.std.specs.List.{AllByRecursion}
-use Rattle.std.specs.Option.{option_eq, option_map}
-use Rattle.std.specs.Prelude.{IfSome, find, nat_eq}
+use Rattle.std.specs.Option.{option_map}
+use Rattle.std.specs.Prelude.{IfSome, find}
 use Rattle.ckr_desk_plans.specs.StepTypes.StepRun.{StepRun}
-use Rattle.ckr_base.proofs.Bools.{and-second}
 use Rattle.ckr_base.proofs.Options.{some-not-none, some-one}
 use Rattle.ckr_base.specs.declared.code.Code.{Code}
 use Rattle.arrayvec.specs.ArrayVec.{ArrayVec}
@@ -15,36 +14,37 @@ use Rattle.ckr_events.specs.declared.event.Made.{Made}
 use Rattle.ckr_jcl.specs.declared.deck.Job.{Job}
 use Rattle.ckr_library.specs.Catalog.{records_of}
 use Rattle.ckr_library.specs.NameMaps.{Name}
-use Rattle.ckr_meaning.specs.EffectiveJob.{Effective, OwnedStep, flaws_in, names_of, placed_in, stamp_of, step_at}
+use Rattle.ckr_meaning.specs.EffectiveJob.{Effective, OwnedStep, names_of, step_at}
 use Rattle.ckr_volumes.specs.declared.layout.Layout.{Layout}
-use Rattle.ckr_points.specs.declared.run.RunState.TheVariants.{On, Released}
-use Rattle.ckr_points.specs.Follows.{are_items, follows, is_empty, is_free, is_in_state, is_running, may_restart_again, may_start, own_step, selected_follows, started_follows}
+use Rattle.ckr_points.specs.Follows.{follows, own_step}
 use Rattle.ckr_points.specs.Restart.{after_event, place_of, step_in}
-use Rattle.ckr_points.specs.Rows.{RunRow, TablesModel, holding_of, run_of, standing_of, step_of_run, table_ways}
+use Rattle.ckr_points.specs.Rows.{RunRow, TablesModel, holding_of, run_of, step_of_run}
 use Rattle.ckr_points.specs.Soundness.{AreLaidOut}
 use Rattle.ckr_desk_plans.specs.Model.StepUnit.{AreCounted}
 use Rattle.ckr_points_tables.specs.View.{seen_by}
 use Rattle.ckr_desk_turn.specs.Queue.{AreNumbered}
 use Rattle.ckr_desk_plans.specs.declared.running_step.RunningStep.{RunningStep}
 use Rattle.ckr_desk_memory.specs.EventChanges.{check_name_in, is_point_of}
-use Rattle.ckr_desk_memory.specs.RunningSteps.{GoesOn, IsStartedFrom, MayGoBack, MayRun, StepGoesBack}
+use Rattle.ckr_desk_memory.specs.RunningSteps.{GoesOn, IsStartedFrom, MayGoBack, MayLookUp, MayRun, StepGoesBack}
 use Rattle.ckr_desk_memory.specs.Invariant.{AreJobs, IsAcceptedRow, IsAnyAccepted, IsPlacedRow, IsRunnable}
 use Rattle.ckr_desk_memory.specs.Preparation.{HasAgain, HasStarted, HasStep, HasTaken, IsEmpty, IsResumed, StandsEmpty}
-use Rattle.ckr_desk_memory.specs.Start.{HasNew, has_sets}
+use Rattle.ckr_desk_memory.specs.Start.{HasNew, has_sets, AllFit}
 use Rattle.ckr_desk_memory.specs.View.{JobsView, PointView, RunningStepView, begun as at_first, resumed}
 use Rattle.ckr_desk_memory.proofs.RunningSteps.Again.{again-cases, is-back}
 use Rattle.ckr_desk_memory.proofs.AcceptedRuns.{accepted-behind}
 use Rattle.ckr_desk_memory.proofs.Invariant.{all-filtered, placed-behind}
 use Rattle.ckr_desk_memory.proofs.RunNumbers.{numbered-behind}
 use Rattle.ckr_desk_memory.proofs.Extents.{laid-behind}
-use Rattle.ckr_desk_memory.proofs.Queue.{run-there, step-there}
 use Rattle.ckr_desk_memory.proofs.RunningSteps.Entries.{entered-all}
 use Rattle.ckr_desk_memory.proofs.RunningSteps.Served.{served-runnable}
-use Rattle.ckr_desk_memory.proofs.RunningSteps.TakenSteps.{is-taken, taken-accepted, taken-long, taken-numbered}
-use Rattle.ckr_desk_memory.proofs.Runs.{Kind, kind_of, long-stay, runs-stay}
+use Rattle.ckr_desk_memory.proofs.RunningSteps.TakenSteps.{is-taken}
+use Rattle.ckr_desk_memory.proofs.Runs.{Kind, kind_of, runs-stay, numbers-stay}
 use Rattle.ckr_desk_memory.proofs.Starts.Names.{has-among}
 use Rattle.ckr_desk_memory.proofs.Starts.Sets.{is-runnable, runnable-at}
 use Rattle.ckr_desk_memory.proofs.SetCopies.{all-fit}
+use Rattle.ckr_desk_memory.proofs.EventRows.{by-restarted, by-started, row-selected}
+use Rattle.ckr_points_tables.specs.Invariant.{is_submission}
+use Rattle.ckr_events.specs.Jobs.{job_of}
 
 -- ---- a row in other tables whose runs are the same
 
@@ -77,81 +77,53 @@ row_within : (tables : TablesModel) (job : ℕ) (row : RunRow) → run_of tables
 row_within tables zero row at = absurd (some-not-none row (sym at))
 row_within tables (suc place) row at = let within = slice_get_within tables.runs place row at in omega arith
 
-started_step : (layout : Layout) (tables : TablesModel) (step : ℕ) (items : List Made) (row : RunRow) → started_follows layout tables step items row ≡ true → (owned : OwnedStep) × (step_of_run row step ≡ Some owned)
-started_step layout tables step items row follow =
-    step-there (step_of_run row step)
-    (λ owned.
-    let placed = placed_in table_ways (standing_of row tables) row.job.root owned in
-    may_start step (place_of row) && is_empty (flaws_in placed) && are_items layout (stamp_of owned step) tables.sets placed items)
-    (and-second (is_in_state On row) _ follow)
-
 -- ---- what an event asks of the running steps
 
 module _ (layout : Layout) (old : TablesModel) (numbered : AreNumbered 1 old.runs) (rows : AllByRecursion IsAcceptedRow old.runs) (laid : AreLaidOut layout old.sets) (placed : AllByRecursion IsPlacedRow old.runs) where
+  -- runs may be looked up behind it
+  look_up_may : (event : Event) (deck : Option Job) → is_submission event ≡ false → IsAnyAccepted event deck → follows layout old event deck ≡ true → length old.runs ≤ 9999999 → MayLookUp (after_event event deck old)
+  look_up_may event deck other accepted follow few = record {
+    few = subst (λ n. n ≤ 9999999) (sym (numbers-stay old numbered layout event deck other follow).long) few;
+    rows = accepted-behind layout old event deck numbered accepted follow rows;
+    numbered = numbered-behind layout old event deck follow numbered;
+  }
+
+  fit_behind : (event : Event) (deck : Option Job) → follows layout old event deck ≡ true → AllFit (seen_by holding_of (after_event event deck old).sets)
+  fit_behind event deck follow = all-fit layout (after_event event deck old).sets (seen_by holding_of (after_event event deck old).sets) (laid-behind layout old laid event deck follow) refl
+
   started_may : (job step : ℕ) (items : ArrayVec Made) (deck : Option Job) (begun : Option RunningStep) (room : ℕ) → follows layout old (Started job step items) deck ≡ true → length old.runs ≤ 9999999 → IfSome begun (IsEmpty job) → HasStep old job step begun → 0 < room
       → MayRun (Started job step items) (after_event (Started job step items) deck old) begun room
   started_may job step items deck begun room follow few empty has some =
-      let there = run-there old job (started_follows layout old step items.items) follow in
-      let within = row_within old job there.0 there.1 in
-      let same = runs-stay old numbered (Started job step items) deck refl refl in
+      let within = by-started (λ after. job ≤ length old.runs) layout old job deck step items follow (λ row owned its. row_within old job row its.row_at) in
+      let may = look_up_may (Started job step items) deck refl tt follow few in
       record {
         few = omega arith;
         empty = empty;
-        prepared = step_behind (after_event (Started job step items) deck old) old same job step begun has;
-        rows = accepted-behind layout old (Started job step items) deck numbered tt follow rows;
-        numbered = numbered-behind layout old (Started job step items) deck follow numbered;
-        fit = all-fit layout (after_event (Started job step items) deck old).sets (seen_by holding_of (after_event (Started job step items) deck old).sets) (laid-behind layout old laid (Started job step items) deck follow) refl;
+        prepared = step_behind (after_event (Started job step items) deck old) old (runs-stay old numbered (Started job step items) deck refl refl) job step begun has;
+        rows = may.rows;
+        numbered = may.numbered;
+        fit = fit_behind (Started job step items) deck follow;
         some = some;
       }
 
-  restarted_may : (job initiator : ℕ) (code : Code) (deck : Option Job) (again : Option RunningStep) (room : ℕ) → follows layout old (Restarted job initiator code true) deck ≡ true → length old.runs ≤ 9999999 → IfSome again (IsEmpty job) → 0 < room
-      → MayGoBack job (after_event (Restarted job initiator code true) deck old) again room
-  restarted_may job initiator code deck again room follow few empty some =
-      let there = run-there old job (λ row. (is_running row && option_eq nat_eq row.initiator (Some initiator) || is_in_state Released row && is_free layout old initiator) && may_restart_again true row) follow in
-      let within = row_within old job there.0 there.1 in
-      record {
-        few = subst (λ n. n ≤ 9999999) (sym (long-stay old.runs (after_event (Restarted job initiator code true) deck old).runs (runs-stay old numbered (Restarted job initiator code true) deck refl refl))) few;
-        within = omega arith;
-        empty = empty;
-        rows = accepted-behind layout old (Restarted job initiator code true) deck numbered tt follow rows;
-        numbered = numbered-behind layout old (Restarted job initiator code true) deck follow numbered;
-        fit = all-fit layout (after_event (Restarted job initiator code true) deck old).sets (seen_by holding_of (after_event (Restarted job initiator code true) deck old).sets) (laid-behind layout old laid (Restarted job initiator code true) deck follow) refl;
-        some = some;
-      }
-
-  selected_may : (job initiator before step : ℕ) (id : Name) (deck : Option Job) (taken : Option RunningStep) (room : ℕ) → follows layout old (Selected job initiator (suc before) step (Some id)) deck ≡ true → length old.runs ≤ 9999999 → IfSome taken (IsEmpty job) → 0 < room
-      → MayGoBack job (after_event (Selected job initiator (suc before) step (Some id)) deck old) taken room
-  selected_may job initiator before step id deck taken room follow few empty some =
-      let after : TablesModel = after_event (Selected job initiator (suc before) step (Some id)) deck old in
-      let there = run-there old job (selected_follows layout old initiator (suc before) step (Some id)) follow in
-      let within = row_within old job there.0 there.1 in
-      let over = is-taken layout old job initiator before step id deck numbered follow in
-      record {
-        few = subst (λ n. n ≤ 9999999) (sym (taken-long layout old after job (suc before) step over)) few;
-        within = omega arith;
-        empty = empty;
-        rows = taken-accepted layout old after job (suc before) step over rows;
-        numbered = taken-numbered layout old after job (suc before) step over numbered;
-        fit = all-fit layout after.sets (seen_by holding_of after.sets) (over.laid laid) refl;
-        some = some;
-      }
-
-  checkpointed_may : (job taken writes place bytes : ℕ) (id : Name) (lengths : ArrayVec ℕ) (deck : Option Job) (begun : Option RunningStep) (room : ℕ) → follows layout old (Checkpointed job id taken writes lengths place bytes) deck ≡ true → length old.runs ≤ 9999999
-      → MayRun (Checkpointed job id taken writes lengths place bytes) (after_event (Checkpointed job id taken writes lengths place bytes) deck old) begun room
-  checkpointed_may job taken writes place bytes id lengths deck begun room follow few =
-      record {
-        few = subst (λ n. n ≤ 9999999) (sym (long-stay old.runs (after_event (Checkpointed job id taken writes lengths place bytes) deck old).runs (runs-stay old numbered (Checkpointed job id taken writes lengths place bytes) deck refl refl))) few;
-        rows = accepted-behind layout old (Checkpointed job id taken writes lengths place bytes) deck numbered tt follow rows;
-        numbered = numbered-behind layout old (Checkpointed job id taken writes lengths place bytes) deck follow numbered;
-      }
+  -- a run may go on from its point
+  back_may : (event : Event) (deck : Option Job) (again : Option RunningStep) (room : ℕ) → is_submission event ≡ false → IsAnyAccepted event deck → follows layout old event deck ≡ true → job_of event ≤ length old.runs → length old.runs ≤ 9999999
+      → IfSome again (IsEmpty (job_of event)) → 0 < room → MayGoBack (job_of event) (after_event event deck old) again room
+  back_may event deck again room other accepted follow within few empty some =
+      let may = look_up_may event deck other accepted follow few in
+      record { few = may.few; within = omega (arith, within, few); empty = empty; rows = may.rows; numbered = may.numbered; fit = fit_behind event deck follow; some = some }
 
   may : (event : Event) (deck : Option Job) (begun : Option RunningStep) (jobs : JobsView) → jobs.tables.desk ≡ old → follows layout old event deck ≡ true → length old.runs ≤ 9999999 → HasStarted event jobs begun → MayRun event (after_event event deck old) begun jobs.running_room
   may (Started job step items) deck begun jobs is follow few has =
       started_may job step items deck begun jobs.running_room follow few has.empty (subst (λ t. HasStep t job step begun) is has.step) has.room
-  may (Selected job initiator (suc before) step (Some id)) deck begun jobs is follow few has = selected_may job initiator before step id deck begun jobs.running_room follow few has.empty has.room
-  may (Restarted job initiator code true) deck begun jobs is follow few has = restarted_may job initiator code deck begun jobs.running_room follow few has.empty has.room
+  may (Selected job initiator (suc before) step (Some id)) deck begun jobs is follow few has =
+      back_may (Selected job initiator (suc before) step (Some id)) deck begun jobs.running_room refl tt follow
+      (row-selected layout old job deck initiator (suc before) step (Some id) follow (λ row its. row_within old job row its.row_at)) few has.empty has.room
+  may (Restarted job initiator code true) deck begun jobs is follow few has =
+      back_may (Restarted job initiator code true) deck begun jobs.running_room refl tt follow
+      (by-restarted (λ after. job ≤ length old.runs) layout old job deck initiator code true follow (λ row its. row_within old job row its.row_at)) few has.empty has.room
   may (Restarted job initiator code false) deck begun jobs is follow few has = tt
-  may (Checkpointed job id taken writes lengths place bytes) deck begun jobs is follow few has = checkpointed_may job taken writes place bytes id lengths deck begun jobs.running_room follow few
+  may (Checkpointed job id taken writes lengths place bytes) deck begun jobs is follow few has = look_up_may (Checkpointed job id taken writes lengths place bytes) deck refl tt follow few
   may _ deck begun jobs is follow few has = tt
 
   -- ---- the running steps behind it can go on
@@ -159,17 +131,17 @@ module _ (layout : Layout) (old : TablesModel) (numbered : AreNumbered 1 old.run
   started_runnable : (job step : ℕ) (items : ArrayVec Made) (deck : Option Job) (begun : Option RunningStep) (points : List PointView) (before now : List RunningStepView) → follows layout old (Started job step items) deck ≡ true → HasStep old job step begun
       → GoesOn (Started job step items) (after_event (Started job step items) deck old) points before now → AllByRecursion (IsRunnable layout) before → AllByRecursion (IsRunnable layout) now
   started_runnable job step items deck begun points before now follow has goes all =
-      let there = run-there old job (started_follows layout old step items.items) follow in
       let after : TablesModel = after_event (Started job step items) deck old in
-      let owned = started_step layout old step items.items there.0 there.2 in
-      let next = same_row_in after old (runs-stay old numbered (Started job step items) deck refl refl) job there.0 there.1 in
-      let new = subst (λ root. HasNew job root owned.0 (at_first root owned.0) after.sets before now) (ap (λ (k : Kind). k.2.root) next.same) (goes next.next owned.0 next.at (same_step next.next there.0 step owned.0 next.same owned.1)) in
-      let prepared = has there.0 owned.0 there.1 owned.1 in
+      by-started (λ other. AllByRecursion (IsRunnable layout) now) layout old job deck step items follow
+      (λ row owned its.
+      let next = same_row_in after old (runs-stay old numbered (Started job step items) deck refl refl) job row its.row_at in
+      let new = subst (λ root. HasNew job root owned (at_first root owned) after.sets before now) (ap (λ (k : Kind). k.2.root) next.same) (goes next.next owned next.at (same_step next.next row step owned next.same its.found)) in
+      let prepared = has row owned its.row_at its.found in
       subst (AllByRecursion (IsRunnable layout)) (sym new.first) (
-        is-runnable layout old job step items deck there.0 owned.0 new.on rows there.1 owned.1 there.2 (laid-behind layout old laid (Started job step items) deck follow) new.step
+        is-runnable layout old job step items deck row owned new.on rows its (laid-behind layout old laid (Started job step items) deck follow) new.step
             (subst AreCounted (prepared.2.step ∙ sym new.step) prepared.2.counted) new.sets new.code,
         all-filtered (IsRunnable layout) _ before all,
-      )
+      ))
 
   -- one that goes on from its run's point, in a step of a run as it was before the event
   resumed_runnable : (after : TablesModel) (job from number : ℕ) (row next : RunRow) (owned : OwnedStep) (again : Option RunningStep) (points : List PointView) (before now : List RunningStepView) → run_of old from ≡ Some row → step_of_run row number ≡ Some owned
@@ -205,7 +177,7 @@ module _ (layout : Layout) (old : TablesModel) (numbered : AreNumbered 1 old.run
   taken_runnable job initiator before step id deck taken points running now follow has goes all =
       let after : TablesModel = after_event (Selected job initiator (suc before) step (Some id)) deck old in
       let over = is-taken layout old job initiator before step id deck numbered follow in
-      resumed_runnable after job (suc before) step over.row over.next over.owned taken points running now over.row_at over.was over.next_at over.found over.root (over.laid laid)
+      resumed_runnable after job (suc before) step over.row over.next over.owned taken points running now over.row_at over.was over.next_at over.found over.root (laid-behind layout old laid (Selected job initiator (suc before) step (Some id)) deck follow)
       (λ point is. subst (λ (found : Option PointView). HasTaken found old (suc before) step job taken) is has over.row over.owned over.row_at over.was) goes all
 
   -- the step that goes on is prepared by the tables behind the event too

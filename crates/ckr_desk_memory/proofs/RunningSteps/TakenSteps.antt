@@ -1,37 +1,29 @@
 -- A run that continues another one at a checkpoint: behind its selection it is within the step of the earlier run.
-use Rattle.std.proofs.Common.{◌≡◌, ◌≢◌, ◌+◌, ℕ, zero, suc, true, List, [], ◌∷◌, length, slice_set, refl, ap, sym, ◌∙◌, subst, Option, Some, None, arith}
-use Rattle.std.specs.List.{AllByRecursion}
-use Rattle.std.specs.Prelude.{Ok}
+use Rattle.std.proofs.Common.{◌≡◌, ◌≢◌, ℕ, suc, true, List, [], refl, sym, subst, Option, Some, None, arith}
 use Rattle.std.specs.Option.{option_map_or}
 use Rattle.ckr_points_invariant.specs.EarlierRuns.{IsEntryOf, MayContinue}
-use Rattle.ckr_base.proofs.Options.{some-not-none}
 use Rattle.ckr_events.specs.declared.event.Event.TheVariants.{Selected}
 use Rattle.ckr_jcl.specs.declared.deck.Job.{Job}
 use Rattle.ckr_library.specs.NameMaps.{Name, Named}
-use Rattle.ckr_meaning.specs.EffectiveJob.{Effective, OwnedStep, step_at}
+use Rattle.ckr_meaning.specs.EffectiveJob.{OwnedStep}
 use Rattle.ckr_points.specs.Follows.{follows, is_within, own_step}
 use Rattle.ckr_meaning.specs.declared.place.Place.TheVariants.{Within}
 use Rattle.ckr_points.specs.Marks.{lost_names, put_back}
 use Rattle.ckr_points.specs.Restart.{after_continued_at, after_entry_continued, after_event, continued_row, kept_at, needed_names, place_of, syschk_name}
-use Rattle.ckr_points.specs.Rows.{KeptEntry, RunRow, TableSet, TablesModel, run_of, step_of_run, with_row, with_run}
-use Rattle.ckr_points.specs.Soundness.{AreLaidOut}
+use Rattle.ckr_points.specs.Rows.{KeptEntry, RunRow, TableSet, TablesModel, run_of, step_of_run, with_run}
 use Rattle.ckr_points.specs.Tables.{fresh_effect}
 use Rattle.ckr_desk_plans.specs.Model.Commit.{output_names}
 use Rattle.ckr_points_invariant.proofs.Continuations.EarlierRun.{Coming, row_then}
 use Rattle.ckr_points_invariant.proofs.Continuations.Follows.{after-selected, may-continue}
-use Rattle.ckr_points_invariant.proofs.PutBack.Sets.{put_back-laid}
 use Rattle.ckr_volumes.specs.declared.layout.Layout.{Layout}
-use Rattle.ckr_desk_turn.proofs.AdmittedSteps.{spliced-here, spliced-steps}
+use Rattle.ckr_desk_turn.proofs.AdmittedSteps.{spliced-here}
 use Rattle.ckr_desk_turn.specs.Queue.{AreNumbered}
 use Rattle.ckr_desk_turn.proofs.Queue.Events.{run_number}
 use Rattle.ckr_desk_memory.proofs.Holders.Moves.{HasRow, row-as_is, row-next}
-use Rattle.ckr_desk_memory.proofs.Starts.Steps.{row-among}
 use Rattle.ckr_desk_memory.specs.Holders.{reached_names}
-use Rattle.ckr_desk_memory.specs.Invariant.{IsAcceptedRow}
 
--- The run is within the step of the earlier run behind its selection, under the earlier run's root. No other run changes, and what was put back for it
--- stays laid out.
-pub record IsTaken (layout : Layout) (tables after : TablesModel) (job earlier step : ℕ) : Type 0 where
+-- The run is within the step of the earlier run behind its selection, under the earlier run's root. No other run changes.
+pub record IsTaken (tables after : TablesModel) (job earlier step : ℕ) : Type 0 where
   pub row : RunRow
   pub owned : OwnedStep
   pub next : RunRow
@@ -43,24 +35,6 @@ pub record IsTaken (layout : Layout) (tables after : TablesModel) (job earlier s
   pub within : is_within (place_of next) ≡ true
   pub found : own_step next ≡ Some owned
   pub root : next.job.root ≡ row.job.root
-  pub runs : after.runs ≡ with_row next job tables.runs
-  pub accepted : AllByRecursion IsAcceptedRow tables.runs → IsAcceptedRow next
-  pub laid : AreLaidOut layout tables.sets → AreLaidOut layout after.sets
-
--- a run of a deck that was accepted is one of an accepted deck still
-accepted_then : (layout : Layout) (tables : TablesModel) (job initiator earlier step : ℕ) (id : Option Name) (its : MayContinue layout tables job initiator earlier step id) (next : RunRow) → next.deck ≡ its.row.deck → next.job ≡ (continued_row its.row its.other step its.point initiator tables.sets).job
-    → AllByRecursion IsAcceptedRow tables.runs → IsAcceptedRow next
-accepted_then layout tables job initiator earlier step id its next deck steps rows =
-    let mine = row-among IsAcceptedRow tables job its.row rows its.row_at in
-    let other = row-among IsAcceptedRow tables earlier its.other rows its.other_at in
-    record {
-      cards = mine.cards;
-      accepted = mine.accepted ∙ ap (λ (d : Job). Ok d) (sym deck);
-      steps = λ number owned found.
-          spliced-steps mine.cards its.row.number its.row.deck mine.accepted its.other.job step its.owned its.found other.steps number owned (ap (λ (j : Effective). step_at j number) (sym steps) ∙ found);
-      plain = λ none. absurd (some-not-none its.restart (sym its.has ∙ ap (λ (d : Job). d.restart) (sym deck) ∙ none));
-      first = λ none. absurd (some-not-none its.restart (sym its.has ∙ ap (λ (d : Job). d.restart) (sym deck) ∙ none));
-    }
 
 module _ (layout : Layout) (tables : TablesModel) (job initiator before step : ℕ) (id : Name) (numbered : AreNumbered 1 tables.runs) (its : MayContinue layout tables job initiator (suc before) step (Some id)) where
   number : its.row.number ≡ job
@@ -92,7 +66,7 @@ module _ (layout : Layout) (tables : TablesModel) (job initiator before step : �
     now : HasRow tables (with_run then (record tables { sets = sets_back })) job then
     now = row-next tables tables job its.row then sets_back (row-as_is tables job its.row its.row_at) number
 
-    taken-at : IsTaken layout tables (after_entry_continued first its.owned step (syschk_name its.row.deck) entry tables) job (suc before) step
+    taken-at : IsTaken tables (after_entry_continued first its.owned step (syschk_name its.row.deck) entry tables) job (suc before) step
     taken-at = record {
       row = its.other;
       owned = its.owned;
@@ -105,61 +79,19 @@ module _ (layout : Layout) (tables : TablesModel) (job initiator before step : �
       within = refl;
       found = spliced-here its.other.job step its.row.number its.row.deck its.owned its.found;
       root = refl;
-      runs = ap (λ n. with_row then n tables.runs) number;
-      accepted = accepted_then layout tables job initiator (suc before) step (Some id) its then refl refl;
-      laid = put_back-laid layout entry.point.marks (output_names its.other.job.root its.owned) needed tables.sets;
     }
 
-  taken-continued : IsTaken layout tables (after_continued_at first its.owned step its.point (Some id) tables) job (suc before) step
+  taken-continued : IsTaken tables (after_continued_at first its.owned step its.point (Some id) tables) job (suc before) step
   taken-continued = by (kept_at tables.sets (syschk_name its.row.deck) id) refl
     where
       by : (found : Option KeptEntry) → kept_at tables.sets (syschk_name its.row.deck) id ≡ found
-          → IsTaken layout tables (option_map_or (λ entry. after_entry_continued first its.owned step (syschk_name its.row.deck) entry tables) found tables) job (suc before) step
+          → IsTaken tables (option_map_or (λ entry. after_entry_continued first its.owned step (syschk_name its.row.deck) entry tables) found tables) job (suc before) step
       by None none = absurd (subst (IsEntryOf its.other step (Some id)) none its.entry)
       by (Some entry) kept = taken-at entry
 
 pub is-taken : (layout : Layout) (tables : TablesModel) (job initiator before step : ℕ) (id : Name) (deck : Option Job) → AreNumbered 1 tables.runs → follows layout tables (Selected job initiator (suc before) step (Some id)) deck ≡ true
-    → IsTaken layout tables (after_event (Selected job initiator (suc before) step (Some id)) deck tables) job (suc before) step
+    → IsTaken tables (after_event (Selected job initiator (suc before) step (Some id)) deck tables) job (suc before) step
 is-taken layout tables job initiator before step id deck numbered follow =
     let its : MayContinue layout tables job initiator (suc before) step (Some id) = may-continue layout tables job initiator (suc before) step (Some id) (λ none. omega (arith, none)) follow in
-    subst (λ after. IsTaken layout tables after job (suc before) step) (sym (after-selected layout tables job initiator before step (Some id) deck its))
+    subst (λ after. IsTaken tables after job (suc before) step) (sym (after-selected layout tables job initiator before step (Some id) deck its))
     (taken-continued layout tables job initiator before step id numbered its)
-
--- ---- the runs behind the selection
-
-put_numbered : (from place : ℕ) (rows : List RunRow) (row : RunRow) → row.number ≡ from + place → AreNumbered from rows → AreNumbered from (slice_set rows place row)
-put_numbered from place [] row same numbered = numbered
-put_numbered from zero (first ∷ rows) row same numbered = (omega (arith, same), numbered.1)
-put_numbered from (suc place) (first ∷ rows) row same numbered = (numbered.0, put_numbered (suc from) place rows row (omega (arith, same)) numbered.1)
-
-put_long : (rows : List RunRow) (place : ℕ) (row : RunRow) → length (slice_set rows place row) ≡ length rows
-put_long [] place row = refl
-put_long (first ∷ rows) zero row = refl
-put_long (first ∷ rows) (suc place) row = ap (λ n. suc n) (put_long rows place row)
-
-put_each : (P : RunRow → Type 0) (rows : List RunRow) (place : ℕ) (row : RunRow) → P row → AllByRecursion P rows → AllByRecursion P (slice_set rows place row)
-put_each P [] place row is all = all
-put_each P (first ∷ rows) zero row is all = (is, all.1)
-put_each P (first ∷ rows) (suc place) row is all = (all.0, put_each P rows place row is all.1)
-
-module _ (layout : Layout) (tables after : TablesModel) (job earlier step : ℕ) (taken : IsTaken layout tables after job earlier step) where
-  pub taken-numbered : AreNumbered 1 tables.runs → AreNumbered 1 after.runs
-  taken-numbered numbered = subst (AreNumbered 1) (sym taken.runs) (by job taken.number)
-    where
-      by : (place : ℕ) → taken.next.number ≡ place → AreNumbered 1 (with_row taken.next place tables.runs)
-      by zero same = numbered
-      by (suc place) same = put_numbered 1 place tables.runs taken.next (omega (arith, same)) numbered
-
-  pub taken-long : length after.runs ≡ length tables.runs
-  taken-long = ap (λ (rows : List RunRow). length rows) taken.runs ∙ by job
-    where
-      by : (place : ℕ) → length (with_row taken.next place tables.runs) ≡ length tables.runs
-      by zero = refl
-      by (suc place) = put_long tables.runs place taken.next
-
-  pub taken-accepted : AllByRecursion IsAcceptedRow tables.runs → AllByRecursion IsAcceptedRow after.runs
-  taken-accepted rows = subst (AllByRecursion IsAcceptedRow) (sym taken.runs) (by job)
-    where
-      by : (place : ℕ) → AllByRecursion IsAcceptedRow (with_row taken.next place tables.runs)
-      by zero = rows
-      by (suc place) = put_each IsAcceptedRow tables.runs place taken.next (taken.accepted rows) rows

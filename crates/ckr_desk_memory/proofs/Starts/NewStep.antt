@@ -4,6 +4,7 @@ use Rattle.std.proofs.lemmas.Option.{same_Some}
 use Rattle.std.specs.Prelude.{if◌then◌else◌}
 use Rattle.std.specs.List.{cons_option, filter_map}
 use Rattle.std.specs.Option.{is_some, option_map, option_map_or}
+use Rattle.std.proofs.lemmas.Bool.{false≢true}
 use Rattle.ckr_base.proofs.Options.{some-not-none}
 use Rattle.ckr_jcl.specs.declared.deck.Dd.{Dd}
 use Rattle.ckr_library.specs.Catalog.{Catalog, Holding}
@@ -101,42 +102,37 @@ isnt-there false number is = refl
 -- ---- as it was prepared
 
 -- at its beginning
-pub starts-prepared : (tables : TablesModel) (job step : ℕ) (old new : List RunningStepView) (begun : Option RunningStep) (on : RunningStep) → begun ≡ Some on → HasStep tables job step begun
-    → ((row : RunRow) (owned : OwnedStep) → run_of tables job ≡ Some row → step_of_run row step ≡ Some owned → HasNew job row.job.root owned on.step tables.sets old new) → StepStarts job step tables old new
-starts-prepared tables job step old new begun on is has goes row owned at there =
+pub starts-prepared : (tables : TablesModel) (job step : ℕ) (old new : List RunningStepView) (begun : Option RunningStep) → HasStep tables job step begun
+    → ((on : RunningStep) (row : RunRow) (owned : OwnedStep) → begun ≡ Some on → run_of tables job ≡ Some row → step_of_run row step ≡ Some owned → HasNew job row.job.root owned on.step tables.sets old new)
+    → StepStarts job step tables old new
+starts-prepared tables job step old new begun has goes row owned at there =
     let prepared = has row owned at there in
-    let same : on.step ≡ prepared.0.step = ap (λ (o : RunningStep). o.step) (same_Some _ _ (sym is ∙ prepared.1)) in
-    subst (λ (place : StepRun). HasNew job row.job.root owned place tables.sets old new) (same ∙ prepared.2.step) (goes row owned at there)
-
--- none is prepared exactly where there is none to start
-pub starts-none : (tables : TablesModel) (job step : ℕ) (old new : List RunningStepView) (begun : Option RunningStep) → begun ≡ None → HasStep tables job step begun → StepStarts job step tables old new
-starts-none tables job step old new begun none has row owned at there =
-    let prepared = has row owned at there in absurd (some-not-none prepared.0 (sym prepared.1 ∙ none))
+    subst (λ (place : StepRun). HasNew job row.job.root owned place tables.sets old new) prepared.2.step (goes prepared.0 row owned prepared.1 at there)
 
 -- ---- as a run goes on from its point
 
 module _ (tables : TablesModel) (job : ℕ) (old new : List RunningStepView) where
   -- none is prepared where no point is known, or where the run is in no step
-  pub again-none : (point : Option PointView) (again : Option RunningStep) → again ≡ None → HasAgain point tables job again → new ≡ without_run job old → StepGoesBack point job tables old new
+  pub again-none : (point : Option PointView) (again : Option RunningStep) → is_some again ≡ false → HasAgain point tables job again → new ≡ without_run job old → StepGoesBack point job tables old new
   again-none None again none has leaves = leaves
   again-none (Some point) again none has leaves = λ row owned at found.
-      let prepared = has row owned at found in absurd (some-not-none prepared.0 (sym prepared.1 ∙ none))
+      let prepared = has row owned at found in absurd (false≢true (sym none ∙ ap is_some prepared.1))
 
   -- the run isn't on an initiator, or the tables don't have all its data sets
-  pub again-left : (on : RunningStep) (point : Option PointView) (again : Option RunningStep) → again ≡ Some on → HasAgain point tables job again → new ≡ without_run job old
+  pub again-left : (point : Option PointView) (again : Option RunningStep) → HasAgain point tables job again → new ≡ without_run job old
       → ((row : RunRow) (owned : OwnedStep) → run_of tables job ≡ Some row → own_step row ≡ Some owned → may_go_back tables owned row ≡ false) → StepGoesBack point job tables old new
-  again-left on None again is has leaves lacks = leaves
-  again-left on (Some point) again is has leaves lacks = λ row owned at found.
+  again-left None again has leaves lacks = leaves
+  again-left (Some point) again has leaves lacks = λ row owned at found.
       subst (λ b. GoesFrom b job row.job.root owned point tables old new) (sym (lacks row owned at found)) leaves
 
   -- it is, they have, and it goes on from there
-  pub again-some : (on : RunningStep) (point : Option PointView) (again : Option RunningStep) → again ≡ Some on → HasAgain point tables job again
-      → ((row : RunRow) (owned : OwnedStep) → run_of tables job ≡ Some row → own_step row ≡ Some owned → (may_go_back tables owned row ≡ true) × HasNew job row.job.root owned on.step tables.sets old new)
+  pub again-some : (point : Option PointView) (again : Option RunningStep) → is_some again ≡ true → HasAgain point tables job again
+      → ((on : RunningStep) (row : RunRow) (owned : OwnedStep) → again ≡ Some on → run_of tables job ≡ Some row → own_step row ≡ Some owned
+      → (may_go_back tables owned row ≡ true) × HasNew job row.job.root owned on.step tables.sets old new)
       → StepGoesBack point job tables old new
-  again-some on None again is has goes = absurd (some-not-none on (sym is ∙ has))
-  again-some on (Some point) again is has goes = λ row owned at found.
+  again-some None again there has goes = absurd (false≢true (sym (ap is_some has) ∙ there))
+  again-some (Some point) again there has goes = λ row owned at found.
       let prepared = has row owned at found in
-      let gone = goes row owned at found in
-      let same : on.step ≡ prepared.0.step = ap (λ (o : RunningStep). o.step) (same_Some _ _ (sym is ∙ prepared.1)) in
+      let gone = goes prepared.0 row owned prepared.1 at found in
       subst (λ b. GoesFrom b job row.job.root owned point tables old new) (sym gone.0)
-      (subst (λ (place : StepRun). HasNew job row.job.root owned place tables.sets old new) (same ∙ prepared.2.step) gone.1)
+      (subst (λ (place : StepRun). HasNew job row.job.root owned place tables.sets old new) prepared.2.step gone.1)

@@ -1,10 +1,9 @@
 -- A step that has started can go on: its data sets are there, and stand apart.
-use Rattle.std.proofs.Common.{◌≡◌, ◌&&◌, ℕ, Bool, true, cond, List, [], refl, ap, sym, ◌∙◌, subst, Option, None, Some, arith, slice_get}
+use Rattle.std.proofs.Common.{◌≡◌, ℕ, true, cond, [], refl, ap, sym, ◌∙◌, subst, Option, None, Some, arith, slice_get}
 use Rattle.std.specs.Prelude.{option_and_then}
 use Rattle.std.proofs.lemmas.Bool.{false≢true}
 use Rattle.std.specs.List.{AllByRecursion}
 use Rattle.std.specs.Option.{is_some, option_map, option_map_or}
-use Rattle.ckr_base.proofs.Bools.{and-first, and-second}
 use Rattle.ckr_base.proofs.Options.{some-not-none}
 use Rattle.ckr_base.proofs.Sequences.{find-holds}
 use Rattle.arrayvec.specs.ArrayVec.{ArrayVec}
@@ -20,15 +19,12 @@ use Rattle.ckr_jcl.specs.declared.deck.Step.{Step}
 use Rattle.ckr_library.specs.declared.sets.DataSet.{DataSet}
 use Rattle.ckr_library.specs.Catalog.{set_of}
 use Rattle.ckr_library.specs.NameMaps.{Name, Named, entry_at, same_name}
-use Rattle.ckr_meaning.specs.Allotments.{DdAllotment}
-use Rattle.ckr_meaning.specs.EffectiveJob.{OwnedStep, flaws_in, is_among, names_of, placed_in, stamp_of}
+use Rattle.ckr_meaning.specs.EffectiveJob.{OwnedStep, is_among, names_of}
 use Rattle.ckr_meaning.specs.StepRun.{StepStart, input_names}
 use Rattle.ckr_volumes.specs.declared.layout.Layout.{Layout}
 use Rattle.ckr_points.specs.Tables.{after_started}
-use Rattle.ckr_points.specs.Follows.{are_items, is_empty, is_in_state, may_start, started_follows}
-use Rattle.ckr_points.specs.declared.run.RunState.TheVariants.{On}
-use Rattle.ckr_points.specs.Restart.{after_event, place_of}
-use Rattle.ckr_points.specs.Rows.{RunRow, TableSet, TablesModel, run_of, standing_of, step_of_run, table_ways}
+use Rattle.ckr_points.specs.Restart.{after_event}
+use Rattle.ckr_points.specs.Rows.{RunRow, TableSet, TablesModel, run_of, step_of_run}
 use Rattle.ckr_points.specs.Soundness.{AreLaidOut}
 use Rattle.ckr_desk_plans.specs.StepTypes.StepRun.{StepRun}
 use Rattle.ckr_desk_plans.specs.Model.Files.{dd_in, files_of, input_dd, source_by, source_in}
@@ -43,10 +39,10 @@ use Rattle.ckr_desk_memory.specs.View.{RunningStepView, begun}
 use Rattle.ckr_desk_memory.specs.Start.{set_in_tables}
 use Rattle.ckr_desk_memory.proofs.Starts.Steps.{row-among, step-among}
 use Rattle.ckr_desk_memory.proofs.RecordCounts.{HasFew, IsStepFew, steps-few}
-use Rattle.ckr_desk_memory.proofs.Extents.{tested-step}
 use Rattle.ckr_desk_memory.proofs.Starts.Names.{names-there}
 use Rattle.ckr_desk_memory.proofs.SetCopies.{are-stored}
 use Rattle.ckr_desk_memory.proofs.Starts.ProgramSets.{are-there}
+use Rattle.ckr_desk_memory.proofs.EventRows.{IsStarting}
 
 -- ---- the records in the deck are few
 
@@ -89,14 +85,6 @@ behind_start tables job step items deck row owned at there =
     ap (λ found. option_map_or (λ row. option_map_or (λ owned. after_started row owned step items.items tables) (step_of_run row step) tables) found tables) at
     ∙ ap (λ found. option_map_or (λ owned. after_started row owned step items.items tables) found tables) there
 
-no_flaws : (layout : Layout) (tables : TablesModel) (step : ℕ) (items : List Made) (row : RunRow) (owned : OwnedStep) → started_follows layout tables step items row ≡ true → step_of_run row step ≡ Some owned
-    → is_empty (flaws_in (placed_in table_ways (standing_of row tables) row.job.root owned)) ≡ true
-no_flaws layout tables step items row owned follow there =
-    let placed : OwnedStep → List DdAllotment = λ owned. placed_in table_ways (standing_of row tables) row.job.root owned in
-    let asked : OwnedStep → Bool = λ owned. may_start step (place_of row) && is_empty (flaws_in (placed owned)) && are_items layout (stamp_of owned step) tables.sets (placed owned) items in
-    and-second (may_start step (place_of row)) _
-    (and-first _ (are_items layout (stamp_of owned step) tables.sets (placed owned) items) (tested-step (step_of_run row step) asked (and-second (is_in_state On row) _ follow) owned there))
-
 set_there : (tables : Named TableSet) (name : Name) → is_some (entry_at tables name) ≡ true → (set : DataSet) × (set_in_tables tables name ≡ Some set)
 set_there tables name has = by (entry_at tables name) has
   where
@@ -138,13 +126,13 @@ runnable-at layout tables job step row owned on after rows at there laid is coun
 
 -- a step that has started can go on
 pub is-runnable : (layout : Layout) (tables : TablesModel) (job step : ℕ) (items : ArrayVec Made) (deck : Option Job) (row : RunRow) (owned : OwnedStep) (on : RunningStepView) → AllByRecursion IsAcceptedRow tables.runs
-    → run_of tables job ≡ Some row → step_of_run row step ≡ Some owned → started_follows layout tables step items.items row ≡ true → AreLaidOut layout (after_event (Started job step items) deck tables).sets
+    → IsStarting layout tables job step items.items row owned → AreLaidOut layout (after_event (Started job step items) deck tables).sets
     → on.step ≡ begun row.job.root owned → AreCounted on.step
     → ((name : Name) → set_of on.sets name ≡ cond (is_among (names_of row.job.root owned) name) (set_in_tables (after_event (Started job step items) deck tables).sets name) None)
     → on.code ≡ None → IsRunnable layout on
-is-runnable layout tables job step items deck row owned on rows at there follow laid is counted has code =
+is-runnable layout tables job step items deck row owned on rows its laid is counted has code =
     let after : Named TableSet = (after_event (Started job step items) deck tables).sets in
-    runnable-at layout tables job step row owned on after rows at there laid (ap (λ (s : StepRun). s.files) is) counted
+    runnable-at layout tables job step row owned on after rows its.row_at its.found laid (ap (λ (s : StepRun). s.files) is) counted
     (λ name among.
-    subst (λ (t : TablesModel). is_some (entry_at t.sets name) ≡ true) (sym (behind_start tables job step items deck row owned at there))
-    (names-there tables row owned step items.items (no_flaws layout tables step items.items row owned follow there) name among)) has code
+    subst (λ (t : TablesModel). is_some (entry_at t.sets name) ≡ true) (sym (behind_start tables job step items deck row owned its.row_at its.found))
+    (names-there tables row owned step items.items its.flawless name among)) has code

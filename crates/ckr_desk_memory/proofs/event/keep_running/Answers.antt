@@ -14,15 +14,20 @@ use Rattle.ckr_desk_memory.specs.RunningSteps.{GoesOn, IsStartedFrom, MayGoBack,
 use Rattle.ckr_desk_memory.specs.Parts.{step_seen}
 use Rattle.ckr_desk_memory.specs.View.{PointView, RunningStepView}
 use Rattle.ckr_desk_memory.proofs.Invariant.{seen-without}
+use Rattle.ckr_desk_memory.proofs.Starts.NewStep.{starts-prepared}
 use Rattle.ckr_desk_memory.proofs.event.keep_running.Goals as goal
 
-pub start_prepared-requires : goal.start_prepared-requires
-start_prepared-requires c =
-    subst (λ event. MayRun event c.args.tables.now.desk c.args.begun (vec_capacity c.args.running.now - vec_len c.args.running.now)) c.in-Started.is c.requires.may
+pub start_step-requires : goal.start_step-requires
+start_step-requires c =
+    let may = subst (λ event. MayRun event c.args.tables.now.desk c.args.begun.now (vec_capacity c.args.running.now - vec_len c.args.running.now)) c.in-Started.is c.requires.may in
+    record { job = may.few; empty = may.empty; rows = may.rows; numbered = may.numbered; fit = may.fit; room = omega (arith, may.some) }
 
 pub returns-in-Started : goal.returns-in-Started
 returns-in-Started c = λ points from.
-    subst (λ event. GoesOn event c.args.tables.now.desk points (map step_seen c.args.running.now.items) (map step_seen c.start_prepared.new.running.items)) (sym c.in-Started.is) c.start_prepared.ensures
+    let its = c.in-Started in
+    let may = subst (λ event. MayRun event c.args.tables.now.desk c.args.begun.now (vec_capacity c.args.running.now - vec_len c.args.running.now)) its.is c.requires.may in
+    subst (λ event. GoesOn event c.args.tables.now.desk points (map step_seen c.args.running.now.items) (map step_seen c.start_step.new.running.items)) (sym its.is)
+    (starts-prepared c.args.tables.now.desk its.job its.step _ _ c.args.begun.now may.prepared c.start_step.ensures)
 
 pub returns-in-Cancelled : goal.returns-in-Cancelled
 returns-in-Cancelled c = λ points from.
@@ -39,7 +44,7 @@ returns-in-Checkpointed c = λ points from.
 
 pub check_of-requires : goal.check_of-requires
 check_of-requires c =
-    subst (λ event. MayRun event c.args.tables.now.desk c.args.begun (vec_capacity c.args.running.now - vec_len c.args.running.now)) c.in-Checkpointed.is c.requires.may
+    subst (λ event. MayRun event c.args.tables.now.desk c.args.begun.now (vec_capacity c.args.running.now - vec_len c.args.running.now)) c.in-Checkpointed.is c.requires.may
 
 pub returns-in-StepEnded : goal.returns-in-StepEnded
 returns-in-StepEnded c = λ points from.
@@ -68,8 +73,8 @@ module _ (tables : TablesModel) (job initiator step : ℕ) (begun : Option Runni
 pub go_over-requires : goal.go_over-requires
 go_over-requires c = λ low there.
     let its = c.in-Selected in
-    may-go-over c.args.tables.now.desk its.job its.initiator its.step c.args.begun its.earlier its.id (vec_capacity c.args.running.now - vec_len c.args.running.now)
-    (subst (λ event. MayRun event c.args.tables.now.desk c.args.begun (vec_capacity c.args.running.now - vec_len c.args.running.now)) its.is c.requires.may)
+    may-go-over c.args.tables.now.desk its.job its.initiator its.step c.args.begun.now its.earlier its.id (vec_capacity c.args.running.now - vec_len c.args.running.now)
+    (subst (λ event. MayRun event c.args.tables.now.desk c.args.begun.now (vec_capacity c.args.running.now - vec_len c.args.running.now)) its.is c.requires.may)
     low (sym c.is_some.ensures ∙ there)
 
 pub returns-in-Selected : goal.returns-in-Selected
@@ -78,9 +83,9 @@ returns-in-Selected c = λ points from.
     let before = map step_seen c.args.running.now.items in
     let after = map step_seen c.go_over.new.running.items in
     subst (λ event. GoesOn event c.args.tables.now.desk points before after) (sym its.is)
-    (goes-over c.args.tables.now.desk its.job its.initiator its.step c.args.begun its.earlier its.id points before after (λ low there. c.go_over.ensures.over low (c.is_some.ensures ∙ there))
+    (goes-over c.args.tables.now.desk its.job its.initiator its.step c.args.begun.now its.earlier its.id points before after (λ low there. c.go_over.ensures.over low (c.is_some.ensures ∙ there))
     (λ none. ap (map step_seen) (c.go_over.ensures.alone none)) (λ none. ap (map step_seen) (c.go_over.ensures.start (c.is_some.ensures ∙ none)))
-    (subst (λ event. IsStartedFrom event c.args.tables.now.desk points c.args.begun) its.is from))
+    (subst (λ event. IsStartedFrom event c.args.tables.now.desk points c.args.begun.now) its.is from))
 
 module _ (tables : TablesModel) (job initiator : ℕ) (code : Code) (begun : Option RunningStep) where
   may-restart : (checkpoint : Bool) (room : ℕ) → MayRun (Restarted job initiator code checkpoint) tables begun room → checkpoint ≡ true → MayGoBack job tables begun room
@@ -95,8 +100,8 @@ module _ (tables : TablesModel) (job initiator : ℕ) (code : Code) (begun : Opt
 pub restart-requires : goal.restart-requires
 restart-requires c =
     let its = c.in-Restarted in
-    may-restart c.args.tables.now.desk its.job its.initiator its.code c.args.begun its.checkpoint (vec_capacity c.args.running.now - vec_len c.args.running.now)
-    (subst (λ event. MayRun event c.args.tables.now.desk c.args.begun (vec_capacity c.args.running.now - vec_len c.args.running.now)) its.is c.requires.may)
+    may-restart c.args.tables.now.desk its.job its.initiator its.code c.args.begun.now its.checkpoint (vec_capacity c.args.running.now - vec_len c.args.running.now)
+    (subst (λ event. MayRun event c.args.tables.now.desk c.args.begun.now (vec_capacity c.args.running.now - vec_len c.args.running.now)) its.is c.requires.may)
 
 pub returns-in-Restarted : goal.returns-in-Restarted
 returns-in-Restarted c = λ points from.
@@ -104,5 +109,5 @@ returns-in-Restarted c = λ points from.
     let before = map step_seen c.args.running.now.items in
     let after = map step_seen c.restart.new.running.items in
     subst (λ event. GoesOn event c.args.tables.now.desk points before after) (sym its.is)
-    (goes-restarted c.args.tables.now.desk its.job its.initiator its.code c.args.begun its.checkpoint points before after c.restart.ensures.back c.restart.ensures.start
-    (subst (λ event. IsStartedFrom event c.args.tables.now.desk points c.args.begun) its.is from))
+    (goes-restarted c.args.tables.now.desk its.job its.initiator its.code c.args.begun.now its.checkpoint points before after c.restart.ensures.back c.restart.ensures.start
+    (subst (λ event. IsStartedFrom event c.args.tables.now.desk points c.args.begun.now) its.is from))
