@@ -52,7 +52,21 @@ fn open(alloc: Global, disk: MemDisk) -> Result<Desk<MemDisk, Standing>, Fail> {
     }
 }
 
-// Each call of the desk stands in one helper, so that its clauses are seen there alone.
+/// A desk on a disk that is formatted so.
+fn fresh(alloc: Global) -> Result<Desk<MemDisk, Standing>, Fail> {
+    open(alloc, formatted(alloc)?)
+}
+
+/// The desk on the disk that another one leaves.
+fn open_again(
+    alloc: Global,
+    desk: Desk<MemDisk, Standing>,
+) -> Result<Desk<MemDisk, Standing>, Fail> {
+    open(alloc, close(desk))
+}
+
+// Each call of the desk stands in one helper, so that its clauses are seen there alone. A test that has a desk of its own closes it before it
+// asks what came, since each way out of a function drops what it owns.
 
 /// Hands the disk back.
 fn close(desk: Desk<MemDisk, Standing>) -> MemDisk {
@@ -93,12 +107,12 @@ fn turned(desk: &mut Desk<MemDisk, Standing>) -> Option<Result<Reply, DeskError>
 
 #[test]
 fn opened_again(rt: HostRuntime) -> Result<(), Fail> {
-    let alloc = rt.alloc();
-    let desk = open(alloc, formatted(alloc)?)?;
-    assert!(rt; desk.runs().is_empty());
-    let again = open(alloc, close(desk))?;
-    assert!(rt; again.runs().is_empty());
-    assert!(rt; again.layout().book == 100_000);
+    let desk = fresh(rt.alloc())?;
+    let before = desk.runs().is_empty();
+    let again = open_again(rt.alloc(), desk)?;
+    let behind = again.runs().is_empty() && again.layout().book == 100_000;
+    close(again);
+    assert!(rt; before && behind);
     Ok(())
 }
 
@@ -164,10 +178,9 @@ fn submit_and_purge(alloc: Global, desk: &mut Desk<MemDisk, Standing>) -> Result
 
 #[test]
 fn submitted_and_purged(rt: HostRuntime) -> Result<(), Fail> {
-    let alloc = rt.alloc();
-    let mut desk = open(alloc, formatted(alloc)?)?;
-    let answered = submit_and_purge(alloc, &mut desk)?;
-    let again = open(alloc, close(desk))?;
+    let mut desk = fresh(rt.alloc())?;
+    let answered = submit_and_purge(rt.alloc(), &mut desk)?;
+    let again = open_again(rt.alloc(), desk)?;
     let runs = again.runs().len();
     close(again);
     assert!(rt; answered && runs == 2);
@@ -230,10 +243,9 @@ fn run_copy(alloc: Global, desk: &mut Desk<MemDisk, Standing>) -> Result<bool, F
 
 #[test]
 fn run_to_its_end(rt: HostRuntime) -> Result<(), Fail> {
-    let alloc = rt.alloc();
-    let mut desk = open(alloc, formatted(alloc)?)?;
-    let ran = run_copy(alloc, &mut desk)?;
-    let mut again = open(alloc, close(desk))?;
+    let mut desk = fresh(rt.alloc())?;
+    let ran = run_copy(rt.alloc(), &mut desk)?;
+    let mut again = open_again(rt.alloc(), desk)?;
     let kept = has_copied(&mut again)?;
     close(again);
     assert!(rt; ran && kept);
@@ -296,14 +308,18 @@ fn has_no_room_twice(desk: &mut Desk<MemDisk, Standing>) -> bool {
         && listed_at(desk, 0).is_some_and(|it| it.set.length == 1)
 }
 
+/// Whether a long copy is begun, and has no room for its next event once the book is full.
+fn is_out_of_room(alloc: Global, desk: &mut Desk<MemDisk, Standing>) -> Result<bool, Fail> {
+    let begun = begin_long_copy(alloc, desk)?;
+    fill_book(alloc, desk)?;
+    Ok(begun && has_no_room_twice(desk))
+}
+
 #[test]
 fn no_room_for_the_event_of_a_unit(rt: HostRuntime) -> Result<(), Fail> {
-    let alloc = rt.alloc();
-    let mut desk = open(alloc, formatted(alloc)?)?;
-    let begun = begin_long_copy(alloc, &mut desk)?;
-    fill_book(alloc, &mut desk)?;
-    let full = has_no_room_twice(&mut desk);
+    let mut desk = fresh(rt.alloc())?;
+    let full = is_out_of_room(rt.alloc(), &mut desk)?;
     close(desk);
-    assert!(rt; begun && full);
+    assert!(rt; full);
     Ok(())
 }

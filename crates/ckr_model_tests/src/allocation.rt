@@ -8,7 +8,7 @@ ghost use Rattle.ckr_points_library.specs.Commit.{IsWithinSpace, output_names};
 ghost use Rattle.ckr_points_library.specs.Holdings.{owned};
 ghost use Rattle.ckr_points_library.specs.AllocationSteps.{fits_named};
 
-use crate::checkpoints::one_volume;
+use crate::installation::one_volume;
 use arrayvec::ArrayVec;
 use ckr_base::{DsName, Name8, Volser};
 use ckr_entry::PassedList;

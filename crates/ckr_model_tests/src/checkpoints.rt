@@ -3,14 +3,16 @@ ghost use Rattle.std.specs.Prelude.{IsTrue, None};
 ghost use Rattle.ckr_points_tables.specs.Invariant.{MayContinue, MayCount, MaySubmit};
 
 use crate::decks::job_of;
+use crate::installation::one_volume;
 use arrayvec::ArrayVec;
-use ckr_base::{ByteList, CheckId, Code, DsName, NoMemory, Volser};
+use ckr_base::{ByteList, CheckId, Code, DsName, NoMemory};
 use ckr_events::{Ending, Event, Made, MadeSets, Piece};
 use ckr_jcl::Job;
 use ckr_points_follows::follows;
 use ckr_points_tables::{Tables, is_submittable};
-use ckr_volumes::{Layout, Volume};
+use ckr_volumes::Layout;
 use std::alloc::Global;
+use std::process::Abort;
 use std::rc::Rc;
 use std::test::Fail;
 
@@ -33,27 +35,6 @@ const DELETES: [&[u8]; 6] = [
     b"//SYSUT2 DD DSN=OUT.L,DISP=(NEW,CATLG),SPACE=(80,10)",
     b"//CHKDD DD DSN=CHK.K,DISP=(OLD,DELETE)",
 ];
-
-/// An installation of one initiator and one volume.
-pub(crate) fn one_volume() -> Layout {
-    let mut volumes = ArrayVec::new();
-    volumes.push(Volume {
-        serial: Volser::read(b"VOL001").unwrap_or_default(),
-        start: 4096,
-        bytes: 100_000,
-    });
-    let mut eligible = ArrayVec::new();
-    eligible.push(Code::System(1));
-    Layout {
-        version: 1,
-        initiators: 1,
-        units: 1,
-        volumes,
-        eligible,
-        book: 1024,
-        image: 0,
-    }
-}
 
 /// The deck of a job is submitted by an event of one card; false where that doesn't follow.
 fn tell_deck(
@@ -480,17 +461,29 @@ pub(crate) fn is_as_told(
     Ok(go_on(alloc, tables, layout, *job, told)? == *goes_on && are_kept(tables, *entries))
 }
 
+/// All of these rows are as they are told.
+pub(crate) fn are_as_told<R: Abort>(
+    rt: &R,
+    alloc: Global,
+    tables: &mut Tables,
+    layout: &Layout,
+    rows: &[Row],
+) -> Result<(), Fail> {
+    for (place, row) in rows.iter().enumerate() {
+        assert!(rt; is_as_told(alloc, tables, layout, row)?, "row {place}");
+    }
+    Ok(())
+}
+
+/// The data set goes with the last row.
+fn are_kept_and_deleted<R: Abort>(rt: &R, alloc: Global, tables: &mut Tables) -> Result<(), Fail> {
+    are_as_told(rt, alloc, tables, &one_volume(), &ROWS)?;
+    assert!(rt; is_deleted(tables));
+    Ok(())
+}
+
 #[test]
 fn entries_are_kept_while_their_data_set_has_them(rt: HostRuntime) -> Result<(), Fail> {
-    let alloc = rt.alloc();
-    let layout = one_volume();
-    let mut tables = Tables::new(alloc);
-    for (place, row) in ROWS.iter().enumerate() {
-        assert!(rt;
-            is_as_told(alloc, &mut tables, &layout, row)?,
-            "row {place}"
-        );
-    }
-    assert!(rt; is_deleted(&tables));
-    Ok(())
+    let mut tables = Tables::new(rt.alloc());
+    are_kept_and_deleted(&rt, rt.alloc(), &mut tables)
 }

@@ -2,7 +2,8 @@
 ghost use Rattle.std.specs.Prelude.{IfSome};
 ghost use Rattle.ckr_points_deferred.specs.Runs.{IsRunNow};
 
-use crate::checkpoints::{NONE, ONE, Row, TWO, Told, WRITES, is_as_told, one_volume, submit};
+use crate::checkpoints::{NONE, ONE, Row, TWO, Told, WRITES, are_as_told, submit};
+use crate::installation::one_volume;
 use ckr_jcl::Restart;
 use ckr_points_deferred::{
     RunNow, WantedNow, deferred_case, denial_of, earlier_number, may_restart, run_now, wanted_name,
@@ -11,6 +12,8 @@ use ckr_points_deferred::{
 use ckr_points_tables::Tables;
 use ckr_rules::{Rule, Verdict, deferred};
 use ckr_volumes::Layout;
+use std::alloc::Global;
+use std::process::Abort;
 use std::test::Fail;
 
 /// The step as the earlier run has it.
@@ -172,24 +175,20 @@ fn is_judged_so(layout: &Layout, tables: &Tables, job: u32, row: &Judged) -> boo
         && wanted_name(&wanted) == step
 }
 
-#[test]
-fn decks_with_restart_are_judged(rt: HostRuntime) -> Result<(), Fail> {
-    let alloc = rt.alloc();
+/// The decks are submitted behind the run that is to be continued, and judged.
+fn are_judged_so<R: Abort>(rt: &R, alloc: Global, tables: &mut Tables) -> Result<(), Fail> {
     let layout = one_volume();
-    let mut tables = Tables::new(alloc);
-    for (place, row) in BEFORE.iter().enumerate() {
-        assert!(rt;
-            is_as_told(alloc, &mut tables, &layout, row)?,
-            "row {place}"
-        );
-    }
+    are_as_told(rt, alloc, tables, &layout, &BEFORE)?;
     for (place, row) in DECKS.iter().enumerate() {
         let job = 2 + place as u32;
-        assert!(rt;
-            submit(alloc, &mut tables, &layout, job, row.0)?,
-            "deck {place}"
-        );
-        assert!(rt; is_judged_so(&layout, &tables, job, row), "deck {place}");
+        assert!(rt; submit(alloc, tables, &layout, job, row.0)?, "deck {place}");
+        assert!(rt; is_judged_so(&layout, tables, job, row), "deck {place}");
     }
     Ok(())
+}
+
+#[test]
+fn decks_with_restart_are_judged(rt: HostRuntime) -> Result<(), Fail> {
+    let mut tables = Tables::new(rt.alloc());
+    are_judged_so(&rt, rt.alloc(), &mut tables)
 }

@@ -3,7 +3,8 @@
 ghost use Rattle.std.specs.Prelude.{IfSome};
 ghost use Rattle.ckr_points_deferred.specs.Runs.{IsRunNow};
 
-use crate::checkpoints::{go_on, one_volume, submit};
+use crate::checkpoints::{go_on, submit};
+use crate::installation::one_volume;
 use crate::restart_decks::{
     ANOTHER_STEP_ON_ITS_VOLUME, AT_AN_ADDED_STEP, AT_ANOTHER_STEP, AT_ENTRY,
     AT_ENTRY_OF_THE_FIRST_STEP, AT_NO_ENTRY, AT_START, AT_THE_FIRST, AT_THE_LATER_STEP,
@@ -252,19 +253,30 @@ fn are_submitted_so(
 }
 
 /// Behind what comes to the jobs, in two parts, decks are judged as their rows have it.
+fn are_judged_on(
+    alloc: Global,
+    tables: &mut Tables,
+    history: &[JobEvent],
+    more: &[JobEvent],
+    rows: &[Judged],
+) -> Result<bool, NoMemory> {
+    let layout = one_volume();
+    Ok(
+        have_gone_on(alloc, tables, &layout, history)?
+            && have_gone_on(alloc, tables, &layout, more)?
+            && are_submitted_so(alloc, tables, &layout, rows)?,
+    )
+}
+
+/// The same on tables of their own.
 fn are_judged_behind(
     alloc: Global,
     history: &[JobEvent],
     more: &[JobEvent],
     rows: &[Judged],
 ) -> Result<bool, NoMemory> {
-    let layout = one_volume();
     let mut tables = Tables::new(alloc);
-    Ok(
-        have_gone_on(alloc, &mut tables, &layout, history)?
-            && have_gone_on(alloc, &mut tables, &layout, more)?
-            && are_submitted_so(alloc, &mut tables, &layout, rows)?,
-    )
+    are_judged_on(alloc, &mut tables, history, more, rows)
 }
 
 #[test]

@@ -1,11 +1,14 @@
 //! Which selections and denials follow on a small desk.
-use crate::checkpoints::{WRITES, is_as_told, one_volume, submit};
+use crate::checkpoints::{WRITES, are_as_told, submit};
 use crate::deferred::{AT_CHECKPOINT, AT_START, BEFORE};
+use crate::installation::one_volume;
 use ckr_base::CheckId;
 use ckr_events::Event;
 use ckr_points_follows::{follows, purged_follows};
 use ckr_points_tables::Tables;
 use ckr_volumes::Layout;
+use std::alloc::Global;
+use std::process::Abort;
 use std::test::Fail;
 
 /// Submitted in this order behind the ended run, from run 2 on. The first goes on from the start of the step, and is denied: CHK.K is
@@ -63,31 +66,43 @@ fn is_denied_so(layout: &Layout, tables: &Tables, row: &(u32, bool)) -> bool {
     follows(tables, layout, &event, None) == expected
 }
 
-#[test]
-fn decks_with_restart_go_on_as_they_name(rt: HostRuntime) -> Result<(), Fail> {
-    let alloc = rt.alloc();
-    let layout = one_volume();
-    let mut tables = Tables::new(alloc);
-    for (place, row) in BEFORE.iter().enumerate() {
-        assert!(rt;
-            is_as_told(alloc, &mut tables, &layout, row)?,
-            "row {place}"
-        );
-    }
+/// The decks are submitted behind the ended run.
+fn are_submitted<R: Abort>(
+    rt: &R,
+    alloc: Global,
+    layout: &Layout,
+    tables: &mut Tables,
+) -> Result<(), Fail> {
     for (place, deck) in DECKS.iter().enumerate() {
         let job = 2 + place as u32;
-        assert!(rt;
-            submit(alloc, &mut tables, &layout, job, *deck)?,
-            "deck {place}"
-        );
-    }
-    for (place, row) in SELECTIONS.iter().enumerate() {
-        assert!(rt; is_selected_so(&layout, &tables, row), "selection {place}");
-    }
-    for (place, row) in DENIALS.iter().enumerate() {
-        assert!(rt; is_denied_so(&layout, &tables, row), "denial {place}");
+        assert!(rt; submit(alloc, tables, layout, job, *deck)?, "deck {place}");
     }
     Ok(())
+}
+
+/// Selections and denials of them follow as their rows have it.
+fn are_followed_so<R: Abort>(rt: &R, layout: &Layout, tables: &Tables) {
+    for (place, row) in SELECTIONS.iter().enumerate() {
+        assert!(rt; is_selected_so(layout, tables, row), "selection {place}");
+    }
+    for (place, row) in DENIALS.iter().enumerate() {
+        assert!(rt; is_denied_so(layout, tables, row), "denial {place}");
+    }
+}
+
+/// The decks go on behind the ended run as they name.
+fn go_on_so<R: Abort>(rt: &R, alloc: Global, tables: &mut Tables) -> Result<(), Fail> {
+    let layout = one_volume();
+    are_as_told(rt, alloc, tables, &layout, &BEFORE)?;
+    are_submitted(rt, alloc, &layout, tables)?;
+    are_followed_so(rt, &layout, tables);
+    Ok(())
+}
+
+#[test]
+fn decks_with_restart_go_on_as_they_name(rt: HostRuntime) -> Result<(), Fail> {
+    let mut tables = Tables::new(rt.alloc());
+    go_on_so(&rt, rt.alloc(), &mut tables)
 }
 
 #[test]

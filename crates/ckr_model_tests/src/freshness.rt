@@ -311,14 +311,16 @@ fn is_as_told<R: Abort>(rt: &R, alloc: Global, steps: &[Step], row: &Row) -> Res
     }
 }
 
+/// These steps are as fresh as the rows say.
+fn are_as_told<R: Abort>(rt: &R, alloc: Global, steps: &[Step]) -> Result<(), Fail> {
+    for (place, row) in ROWS.iter().enumerate() {
+        assert!(rt; is_as_told(rt, alloc, steps, row)?, "row {place}");
+    }
+    Ok(())
+}
+
 #[test]
 fn needed_names_that_are_stale(rt: HostRuntime) -> Result<(), Fail> {
     let job = job_of(rt.alloc(), &DECK)?.ok_or("a deck")?;
-    for (place, row) in ROWS.iter().enumerate() {
-        assert!(rt;
-            is_as_told(&rt, rt.alloc(), job.steps.as_slice(), row)?,
-            "row {place}"
-        );
-    }
-    Ok(())
+    are_as_told(&rt, rt.alloc(), job.steps.as_slice())
 }

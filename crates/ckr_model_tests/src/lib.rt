@@ -18,6 +18,8 @@ mod freshness;
 #[cfg(test)]
 mod inputs;
 #[cfg(test)]
+mod installation;
+#[cfg(test)]
 mod matching;
 #[cfg(test)]
 mod operators;

@@ -7,6 +7,7 @@ use ckr_base::{DsName, NoMemory};
 use ckr_queue::{Queue, Selection};
 use ckr_uses::{Use, Uses};
 use std::alloc::Global;
+use std::process::Abort;
 use std::test::Fail;
 
 /// One use of a name.
@@ -76,18 +77,13 @@ fn a_shared_name_waits_for_nothing(rt: HostRuntime) -> Result<(), Fail> {
     Ok(())
 }
 
-/// A held run keeps its names, and a released one is next, before queued ones that wait.
-#[test]
+/// Of three runs, of which the first two name one data set, the third is held and released.
 #[tactic(auto, using(ckr_queue::proofs::Select::states))]
-fn a_released_run_is_next(rt: HostRuntime) -> Result<(), Fail> {
-    let mut queue = Queue::new(rt.alloc());
-    queue.submit(1, use_of(rt.alloc(), b"X.A", true)?)?;
-    queue.submit(2, use_of(rt.alloc(), b"X.A", true)?)?;
-    queue.submit(3, use_of(rt.alloc(), b"X.B", true)?)?;
-    assert!(rt; take_next(&mut queue) == Some(1));
-    let Some(other) = take_next(&mut queue) else {
+fn is_next_once_it_is_released<R: Abort>(rt: &R, queue: &mut Queue) {
+    assert!(rt; take_next(queue) == Some(1));
+    let Some(other) = take_next(queue) else {
         assert!(rt; false);
-        return Ok(());
+        return;
     };
     assert!(rt; other == 3);
     assert!(rt; !queue.release(3));
@@ -101,6 +97,16 @@ fn a_released_run_is_next(rt: HostRuntime) -> Result<(), Fail> {
     assert!(rt; !queue.purge(1));
     assert!(rt; queue.purge(2));
     assert!(rt; !queue.purge(2));
+}
+
+/// A held run keeps its names, and a released one is next, before queued ones that wait.
+#[test]
+fn a_released_run_is_next(rt: HostRuntime) -> Result<(), Fail> {
+    let mut queue = Queue::new(rt.alloc());
+    queue.submit(1, use_of(rt.alloc(), b"X.A", true)?)?;
+    queue.submit(2, use_of(rt.alloc(), b"X.A", true)?)?;
+    queue.submit(3, use_of(rt.alloc(), b"X.B", true)?)?;
+    is_next_once_it_is_released(&rt, &mut queue);
     Ok(())
 }
 

@@ -1,6 +1,7 @@
 //! Holds and automatic restarts of a job, event by event: which follow, and which entries the data set keeps behind each.
 
-use crate::checkpoints::{NONE, ONE, Row, TWO, Told, WRITES, is_as_told, one_volume};
+use crate::checkpoints::{NONE, ONE, Row, TWO, Told, WRITES, are_as_told};
+use crate::installation::one_volume;
 use ckr_points_tables::Tables;
 use std::test::Fail;
 
@@ -42,14 +43,6 @@ static ROWS: [Row; 20] = [
 
 #[test]
 fn restarts_follow_three_times_at_a_point(rt: HostRuntime) -> Result<(), Fail> {
-    let alloc = rt.alloc();
-    let layout = one_volume();
-    let mut tables = Tables::new(alloc);
-    for (place, row) in ROWS.iter().enumerate() {
-        assert!(rt;
-            is_as_told(alloc, &mut tables, &layout, row)?,
-            "row {place}"
-        );
-    }
-    Ok(())
+    let mut tables = Tables::new(rt.alloc());
+    are_as_told(&rt, rt.alloc(), &mut tables, &one_volume(), &ROWS)
 }

@@ -2,6 +2,7 @@
 
 use crate::decks::job_of;
 use ckr_base::NoMemory;
+use ckr_jcl::Step;
 use ckr_points::same_statements;
 use std::alloc::Global;
 use std::test::Fail;
@@ -198,17 +199,22 @@ static ROWS: [Row; 23] = [
     ),
 ];
 
+/// Whether the first steps have the same statements, or not, as is expected.
+fn begin_alike(steps: &[Step], others: &[Step], expected: bool) -> bool {
+    match (steps, others) {
+        ([one, ..], [other, ..]) => {
+            same_statements(one, other) == expected && same_statements(other, one) == expected
+        }
+        _ => false,
+    }
+}
+
 /// Whether the first steps of both decks have the same statements as the row says, both ways; false too where one is no accepted deck.
 fn is_as_told(alloc: Global, row: &Row) -> Result<bool, NoMemory> {
     let (Some(first), Some(second)) = (job_of(alloc, &FIRST)?, job_of(alloc, row.0)?) else {
         return Ok(false);
     };
-    match (first.steps.as_slice(), second.steps.as_slice()) {
-        ([one, ..], [other, ..]) => {
-            Ok(same_statements(one, other) == row.1 && same_statements(other, one) == row.1)
-        }
-        _ => Ok(false),
-    }
+    Ok(begin_alike(first.steps.as_slice(), second.steps.as_slice(), row.1))
 }
 
 #[test]

@@ -8,6 +8,7 @@ ghost use Rattle.ckr_model_tests.specs.Placed.{EndsBy};
 ghost use Rattle.ckr_steps.specs.StepUnit.{AreCounted};
 ghost use Rattle.ckr_steps.specs.Units.{due_of};
 
+use self::cases::CASES;
 use crate::inputs::parm_of;
 use arrayvec::ArrayVec;
 use ckr_base::{Code, DsName, Name8, NextDue, NoMemory, Rec, Volser};
@@ -21,6 +22,7 @@ use std::alloc::Global;
 use std::process::Abort;
 use std::test::Fail;
 
+mod cases;
 mod points;
 
 /// How a step ended, and how many writes it made.
@@ -118,17 +120,28 @@ fn name<R: Abort>(rt: &R, text: &[u8]) -> DsName {
     DsName::read(text).expect(rt, "a name")
 }
 
-/// `A` with space for three records, `B` and `C` with space for four, and `D` with space for one.
+/// `A` with space for three records, `B` and `C` with space for four, and `D` with space for one, in a library that has nothing.
+fn add_all<R: Abort>(rt: &R, library: &mut Library, layout: &Layout) -> Result<(), Fail>
+    requires volumes { length layout.now.volumes.items ≡ 1 }
+    requires bytes { bytes_of layout.now.volumes.items 0 ≡ 2048 }
+    requires stored { AreStored layout.now library.old }
+    requires ends { EndsBy 0 library.old }
+    ensures { OnOk result (AreStored layout.now library.new) }
+{
+    add(rt, library, layout, name(rt, b"A"), 0, 3)?;
+    add(rt, library, layout, name(rt, b"B"), 240, 4)?;
+    add(rt, library, layout, name(rt, b"C"), 560, 4)?;
+    add(rt, library, layout, name(rt, b"D"), 880, 1)
+}
+
+/// These data sets.
 fn library_of<R: Abort>(rt: &R, alloc: Global, layout: &Layout) -> Result<Library, Fail>
     requires volumes { length layout.now.volumes.items ≡ 1 }
     requires bytes { bytes_of layout.now.volumes.items 0 ≡ 2048 }
     ensures { IfOk result (AreStored layout.now) }
 {
     let mut library = Library::new(alloc);
-    add(rt, &mut library, layout, name(rt, b"A"), 0, 3)?;
-    add(rt, &mut library, layout, name(rt, b"B"), 240, 4)?;
-    add(rt, &mut library, layout, name(rt, b"C"), 560, 4)?;
-    add(rt, &mut library, layout, name(rt, b"D"), 880, 1)?;
+    add_all(rt, &mut library, layout)?;
     Ok(library)
 }
 
@@ -185,69 +198,6 @@ enum Source {
 /// A program, its PARM, the names and sources of its DDs, and how the step ends by its program's rules and by the space of its
 /// data sets.
 type Case = (Kind, &'static [u8], &'static [(&'static [u8], Source)], End);
-
-const FULL: Code = Code::System(0xB37);
-
-static CASES: [Case; 6] = [
-    (
-        Kind::Copy,
-        b"CHK=2,CANCEL=1",
-        &[
-            (b"SYSUT1", Source::Deck(&[b"X1", b"X2", b"X3", b"X4"])),
-            (b"SYSUT2", Source::Set(b"A")),
-        ],
-        End::Abend(FULL, 3),
-    ),
-    (
-        Kind::Copy,
-        b"CHK=2,CANCEL=1",
-        &[
-            (b"SYSUT1", Source::Deck(&[b"1A", b"1B", b"3C"])),
-            (b"SYSUT2", Source::Set(b"B")),
-        ],
-        End::Returned(0, 3),
-    ),
-    (
-        Kind::Select,
-        b"COL=1,VAL=1",
-        &[
-            (b"SYSUT1", Source::Set(b"B")),
-            (b"SYSUT2", Source::Set(b"C")),
-        ],
-        End::Returned(0, 2),
-    ),
-    (
-        Kind::Merge,
-        b"KEY=1:1",
-        &[
-            (b"IN1", Source::Set(b"B")),
-            (b"IN2", Source::Deck(&[b"2D"])),
-            (b"OUT", Source::Set(b"D")),
-        ],
-        End::Abend(FULL, 1),
-    ),
-    // By the second byte of the images of `A`; the rejects go to `D`.
-    (
-        Kind::Update,
-        b"KEY=2:1",
-        &[
-            (b"MASTER", Source::Set(b"A")),
-            (b"TRANS", Source::Deck(&[b"CY2"])),
-            (b"REJECTS", Source::Set(b"D")),
-        ],
-        End::Returned(0, 1),
-    ),
-    (
-        Kind::Update,
-        b"KEY=2:1",
-        &[
-            (b"MASTER", Source::Set(b"A")),
-            (b"TRANS", Source::Deck(&[b"CZ4"])),
-            (b"REJECTS", Source::Set(b"D")),
-        ],
-        End::Abend(FULL, 0),
-    ),
-];
 
 /// These records as cards of the deck.
 fn cards_of(alloc: Global, records: &[&[u8]]) -> Result<Cards, NoMemory> {
@@ -468,14 +418,29 @@ fn byte_at<R: Abort, D: Disk>(
     Ok(found.bytes().first().copied())
 }
 
+/// The steps end as their rows have it, and leave these records.
+fn end_as_their_programs_say<R: Abort, D: Disk>(
+    rt: &R,
+    alloc: Global,
+    disk: &mut D,
+    layout: &Layout,
+    library: &mut Library,
+) -> Result<(), Fail>
+    requires layout { IsTrue (is_laid_out layout.now) }
+    requires fits { disk_needed layout.now ≤ D.size disk.old }
+    requires stored { AreStored layout.now library.old }
+{
+    run_all(rt, alloc, disk, layout, library)?;
+    assert!(rt; byte_at(rt, disk, layout, library, 0)? == Some(b'X'));
+    assert!(rt; byte_at(rt, disk, layout, library, 1)? == Some(b'Y'));
+    Ok(())
+}
+
 #[test]
 fn steps_end_as_their_programs_say(rt: HostRuntime) -> Result<(), Fail> {
     let alloc = rt.alloc();
     let layout = small();
     let mut library = library_of(&rt, alloc, &layout)?;
     let mut disk = MemDisk::new(alloc, 3072, Vec::new(alloc), None)?;
-    run_all(&rt, alloc, &mut disk, &layout, &mut library)?;
-    assert!(rt; byte_at(&rt, &mut disk, &layout, &library, 0)? == Some(b'X'));
-    assert!(rt; byte_at(&rt, &mut disk, &layout, &library, 1)? == Some(b'Y'));
-    Ok(())
+    end_as_their_programs_say(&rt, alloc, &mut disk, &layout, &mut library)
 }

@@ -1,9 +1,12 @@
 //! A deck is submitted, and what the tables have of it. What its later events make is said by clauses.
 
-use crate::checkpoints::{one_volume, submit};
+use crate::checkpoints::submit;
+use crate::installation::one_volume;
 use ckr_base::Name8;
 use ckr_points::RunState;
 use ckr_points_tables::Tables;
+use std::alloc::Global;
+use std::process::Abort;
 use std::test::Fail;
 
 /// A job of one step.
@@ -30,14 +33,17 @@ fn is_nowhere_else(tables: &Tables) -> bool {
         && tables.library().name_at(0).is_none()
 }
 
+/// The job is submitted to tables without runs.
+fn is_submitted<R: Abort>(rt: &R, alloc: Global, tables: &mut Tables) -> Result<(), Fail> {
+    assert!(rt; tables.runs().is_empty());
+    assert!(rt; submit(alloc, tables, &one_volume(), 1, &LINES)?);
+    assert!(rt; is_queued_alone(tables));
+    assert!(rt; is_nowhere_else(tables));
+    Ok(())
+}
+
 #[test]
 fn a_deck_is_submitted(rt: HostRuntime) -> Result<(), Fail> {
-    let alloc = rt.alloc();
-    let layout = one_volume();
-    let mut tables = Tables::new(alloc);
-    assert!(rt; tables.runs().is_empty());
-    assert!(rt; submit(alloc, &mut tables, &layout, 1, &LINES)?);
-    assert!(rt; is_queued_alone(&tables));
-    assert!(rt; is_nowhere_else(&tables));
-    Ok(())
+    let mut tables = Tables::new(rt.alloc());
+    is_submitted(&rt, rt.alloc(), &mut tables)
 }

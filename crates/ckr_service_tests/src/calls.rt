@@ -57,8 +57,34 @@ pub struct Ended {
     pub disk: MemDisk,
 }
 
-/// One call with these words and this stream, whose source and sink don't fail. An operator is `+`, who says yes to everything, `*`, the cautious one, or
-/// letters, his answers in order, behind which he is silent.
+/// Operators by words: `+`, who says yes to everything, `*`, the cautious one, or letters, his answers in order, behind which he is silent.
+fn operators_of(alloc: Global, words: &[&str]) -> Result<Vec<Box<dyn Operator>>, AllocError> {
+    let mut operators: Vec<Box<dyn Operator>> = Vec::new(alloc);
+    for word in words {
+        operators.push(match word.as_bytes() {
+            b"+" => Box::new(alloc, Standing(Answer::Yes))?,
+            b"*" => Box::new(alloc, Cautious)?,
+            letters => Box::new(alloc, Scripted::new(answers_of(alloc, letters)?))?,
+        })?;
+    }
+    Ok(operators)
+}
+
+/// One call with these words over a source and a sink.
+fn call_over(
+    alloc: Global,
+    command: &str,
+    source: &mut MemSource,
+    sink: &mut MemSink,
+    disk: MemDisk,
+    operators: &[&str],
+) -> Result<Closed<MemDisk>, AllocError> {
+    let words = words(alloc, command, "night.disk")?;
+    let operators = operators_of(alloc, operators)?;
+    Ok(batch_desk(alloc, &words, source, sink, disk, operators))
+}
+
+/// One call with these words and this stream, whose source and sink don't fail.
 pub fn call_with(
     alloc: Global,
     command: &str,
@@ -68,16 +94,14 @@ pub fn call_with(
 ) -> Result<Ended, AllocError> {
     let mut source = MemSource::new(stream.to_vec(alloc)?, Vec::new(alloc));
     let mut sink = MemSink::new(alloc, Vec::new(alloc));
-    let words = words(alloc, command, "night.disk")?;
-    let mut named: Vec<Box<dyn Operator>> = Vec::new(alloc);
-    for operator in operators {
-        named.push(match operator.as_bytes() {
-            b"+" => Box::new(alloc, Standing(Answer::Yes))?,
-            b"*" => Box::new(alloc, Cautious)?,
-            letters => Box::new(alloc, Scripted::new(answers_of(alloc, letters)?))?,
-        })?;
-    }
-    let Closed { status, disk } = batch_desk(alloc, &words, &mut source, &mut sink, disk, named);
+    let Closed { status, disk } = call_over(
+        alloc,
+        command,
+        &mut source,
+        &mut sink,
+        disk,
+        operators,
+    )?;
     Ok(Ended {
         status,
         text: sink.bytes().to_vec(alloc)?,
@@ -162,35 +186,42 @@ pub fn is_answered(alloc: Global, row: &Row) -> Result<bool, Fail> {
     Ok(ended.status == status && ended.text.as_slice() == text)
 }
 
-/// One operator, who says yes to everything.
-fn standing(alloc: Global) -> Result<Vec<Standing>, AllocError> {
-    let mut operators = Vec::new(alloc);
-    operators.push(Standing(Answer::Yes))?;
-    Ok(operators)
-}
-
 /// The status and the sink after a stream whose source and sink fail at one call each, on a fresh disk. The operator says yes to everything.
 pub fn served(alloc: Global, bytes: Vec<u8>, take: u32, put: u32) -> Result<(u8, MemSink), Fail> {
     let disk = formatted(alloc, SMALL_CARDS, SMALL_SIZE, None, None)?;
     let mut source = MemSource::new(bytes, [take].to_vec(alloc)?);
     let mut sink = MemSink::new(alloc, [put].to_vec(alloc)?);
-    let words = words(alloc, "run", "night.disk")?;
-    let operators = standing(alloc)?;
-    let closed = batch_desk(alloc, &words, &mut source, &mut sink, disk, operators);
+    let closed = call_over(alloc, "run", &mut source, &mut sink, disk, &["+"])?;
     Ok((closed.status, sink))
 }
 
+/// The command of a call and its stream, with its status and its text.
+type Call = (&'static str, &'static [u8], u8, &'static [u8]);
+
+/// Whether calls of one disk, one after the other, end as their rows have it.
+fn are_answered_in_turn(alloc: Global, disk: MemDisk, rows: &[Call]) -> Result<bool, Fail> {
+    let mut disk = disk;
+    for row in rows {
+        let (command, stream, status, text) = *row;
+        let ended = call(alloc, command, stream, disk)?;
+        if ended.status != status || ended.text.as_slice() != text {
+            return Ok(false);
+        }
+        disk = ended.disk;
+    }
+    Ok(true)
+}
+
+static WORKED: [Call; 3] = [
+    ("run", b"", 0, b""),
+    ("run", STREAM, 0, TEXT),
+    ("run", b"$R OUT.A\n$T 1 1\n", 0, b"=ALPHA\n=BETA\nI1 IDLE\n"),
+];
+
 #[test]
 fn worked_streams_on_one_disk(rt: HostRuntime) -> Result<(), Fail> {
-    let alloc = rt.alloc();
-    let disk = formatted(alloc, CARDS, SIZE, None, None)?;
-    let ended = call(alloc, "run", b"", disk)?;
-    assert!(rt; ended.status == 0 && ended.text.is_empty());
-    let ended = call(alloc, "run", STREAM, ended.disk)?;
-    assert!(rt; ended.status == 0 && ended.text.as_slice() == TEXT);
-    let ended = call(alloc, "run", b"$R OUT.A\n$T 1 1\n", ended.disk)?;
-    assert!(rt; ended.status == 0);
-    assert!(rt; ended.text.as_slice() == b"=ALPHA\n=BETA\nI1 IDLE\n".as_slice());
+    let disk = formatted(rt.alloc(), CARDS, SIZE, None, None)?;
+    assert!(rt; are_answered_in_turn(rt.alloc(), disk, &WORKED)?);
     Ok(())
 }
 
@@ -238,29 +269,32 @@ fn a_run_that_was_running_goes_by_the_rules_when_the_disk_is_opened_again(
     Ok(())
 }
 
+/// Calls of a disk that was never formatted.
+static REFUSED: [Call; 5] = [
+    ("run", STREAM, 2, b""),
+    ("fly", STREAM, 1, b""),
+    (
+        "format",
+        b"UNITS 2\nVOLUME VOL001 200000\nUNITS 2\n",
+        8,
+        b"LINE 3 REFUSED\n",
+    ),
+    ("format", b"UNITS 2\n", 8, b"NO VOLUME\n"),
+    (
+        "format",
+        CARDS,
+        0,
+        b"FORMATTED VOLUMES 2 UNITS 2 INITIATORS 2\n",
+    ),
+];
+
 #[test]
 fn other_disks_are_refused(rt: HostRuntime) -> Result<(), Fail> {
-    let alloc = rt.alloc();
-    let zeros = match MemDisk::new(alloc, SIZE, Vec::new(alloc), None) {
+    let zeros = match MemDisk::new(rt.alloc(), SIZE, Vec::new(rt.alloc()), None) {
         Ok(disk) => disk,
         Err(NoMemory) => return Err("there is memory".into()),
     };
-    let ended = call(alloc, "run", STREAM, zeros)?;
-    assert!(rt; ended.status == 2 && ended.text.is_empty());
-    let ended = call(alloc, "fly", STREAM, ended.disk)?;
-    assert!(rt; ended.status == 1 && ended.text.is_empty());
-    let ended = call(
-        alloc,
-        "format",
-        b"UNITS 2\nVOLUME VOL001 200000\nUNITS 2\n",
-        ended.disk,
-    )?;
-    assert!(rt; ended.status == 8 && ended.text.as_slice() == b"LINE 3 REFUSED\n".as_slice());
-    let ended = call(alloc, "format", b"UNITS 2\n", ended.disk)?;
-    assert!(rt; ended.status == 8 && ended.text.as_slice() == b"NO VOLUME\n".as_slice());
-    let ended = call(alloc, "format", CARDS, ended.disk)?;
-    let text = b"FORMATTED VOLUMES 2 UNITS 2 INITIATORS 2\n";
-    assert!(rt; ended.status == 0 && ended.text.as_slice() == text.as_slice());
+    assert!(rt; are_answered_in_turn(rt.alloc(), zeros, &REFUSED)?);
     Ok(())
 }
 
@@ -375,24 +409,21 @@ fn each_call_of_the_outside_fails_in_turn(rt: HostRuntime) -> Result<(), Fail> {
     Ok(())
 }
 
+/// The disk behind a call whose third put fails, if it ends so and has put what comes before.
+fn disk_behind_a_failure(alloc: Global) -> Result<Option<MemDisk>, Fail> {
+    let disk = formatted(alloc, CARDS, SIZE, None, None)?;
+    let mut source = MemSource::new(STREAM.to_vec(alloc)?, Vec::new(alloc));
+    let mut sink = MemSink::new(alloc, [2].to_vec(alloc)?);
+    let closed = call_over(alloc, "run", &mut source, &mut sink, disk, &["+"])?;
+    let ends_so = closed.status == 5 && TEXT.starts_with(sink.bytes()) && sink.bytes().len() == 46;
+    Ok(ends_so.then_some(closed.disk))
+}
+
 /// A command that the sink fails in is served to its end, and none of its lines is written behind the one that failed.
 #[test]
 fn a_sink_that_fails_within_a_command(rt: HostRuntime) -> Result<(), Fail> {
     let alloc = rt.alloc();
-    let disk = formatted(alloc, CARDS, SIZE, None, None)?;
-    let mut source = MemSource::new(STREAM.to_vec(alloc)?, Vec::new(alloc));
-    let mut sink = MemSink::new(alloc, [2].to_vec(alloc)?);
-    let words = words(alloc, "run", "night.disk")?;
-    let operators = standing(alloc)?;
-    let Closed { status, disk } = batch_desk(
-        alloc,
-        &words,
-        &mut source,
-        &mut sink,
-        disk,
-        operators,
-    );
-    assert!(rt; status == 5 && TEXT.starts_with(sink.bytes()) && sink.bytes().len() == 46);
+    let disk = disk_behind_a_failure(alloc)?.ok_or("the call ends at the put that failed")?;
     let ended = call(alloc, "run", b"$Q\n$R OUT.A\n", disk)?;
     assert!(rt; ended.status == 0);
     assert!(rt; ended.text.as_slice() == b"J0000001 COPY1 ENDED\n=ALPHA\n=BETA\n".as_slice());
