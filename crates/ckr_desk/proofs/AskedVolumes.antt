@@ -20,14 +20,14 @@ use Rattle.ckr_points.specs.Rows.{RunRow, TablesModel, run_of}
 use Rattle.ckr_queue.specs.Mounts.{held_at, with_held}
 use Rattle.ckr_volumes.specs.declared.layout.Layout.{Layout}
 use Rattle.ckr_desk.proofs.Calls.Requests.{if-err}
-use Rattle.ckr_desk.proofs.MachineRooms.{MayCome, asked-comes, asked-held, asked-takes, takes-none, takes_by}
+use Rattle.ckr_desk_turn.proofs.MachineRooms.{MayCome, asked-comes, asked-held, asked-takes, takes-none, takes_by}
 use Rattle.ckr_desk.proofs.Trust.Sameness.{IsAsBefore}
 use Rattle.ckr_desk.proofs.Turns.Answers.{unasked-stands}
 use Rattle.ckr_desk.specs.Attendance.{HasAttended, IsToMount, attempt_in, attended, untaken}
-use Rattle.ckr_desk.specs.MachineRoom.{FitsUnits, NeedsNoQuestion, behind_attempt}
+use Rattle.ckr_desk_turn.specs.MachineRoom.{FitsUnits, MachineRoomView, NeedsNoQuestion, behind_attempt}
 use Rattle.ckr_desk.specs.Rewrite.{OpensSame}
 use Rattle.ckr_desk.specs.Soundness.{state_of}
-use Rattle.ckr_desk.specs.State.{DeskView, MachineRoomView}
+use Rattle.ckr_desk.specs.State.{DeskView}
 use Rattle.ckr_desk.specs.Turn.{AnswerStands, AnswerStandsBy, asks, room_behind_answer}
 use Rattle.ckr_desk.specs.Units.{HasTurned, IsPlanned}
 use Rattle.ckr_desk.specs.declared.error.DeskError.{DeskError}

@@ -31,16 +31,16 @@ use Rattle.ckr_desk.proofs.Images.Soundness.{kept-left}
 use Rattle.ckr_desk.proofs.Trust.Sameness.{IsAsBefore, state-same}
 use Rattle.ckr_desk.proofs.Turns.Plans.{go-needs}
 use Rattle.ckr_desk.proofs.Turns.Preparation.{as-before, planned-before, same-unchanged, turned-before, twice-stayed}
-use Rattle.ckr_desk.specs.Attendance.{AttendedDesk, HasAttended, LacksBy, RoomIsTaken, answer_in, attempt_in, attended, attended_asks, attended_event, attended_fits, attended_reply, behind_attended, given_up_if, mounted, plan_before, RoomStandsBy, room_behind_answers, room_taken, untaken, wants_volumes, with_room_taken}
+use Rattle.ckr_desk.specs.Attendance.{AttendedDesk, HasAttended, LacksBy, RoomIsTaken, answer_in, attempt_in, attended, attended_asks, attended_event, attended_fits, attended_reply, behind_attended, mounted, plan_before, RoomStandsBy, room_behind_answers, room_taken, untaken, wants_volumes, with_room_taken}
+use Rattle.ckr_desk_turn.specs.MachineRoom.{MachineRoomView, behind_attempt, given_up_if}
 use Rattle.ckr_desk.specs.Calls.{HasSameJobs}
-use Rattle.ckr_desk.specs.MachineRoom.{behind_attempt}
 use Rattle.ckr_desk.specs.Continuation.{PlanStandsAt}
 use Rattle.ckr_desk.specs.Preparation.{LacksMemory, NotWorkedOut}
 use Rattle.ckr_desk.specs.Records.{ReadingCause}
 use Rattle.ckr_desk.specs.Requests.{FailsBy, came_by, has_room, spelled}
 use Rattle.ckr_desk.specs.Rewrite.{OpensSame}
 use Rattle.ckr_desk.specs.Soundness.{HasKept, IsTrusted, state_of}
-use Rattle.ckr_desk.specs.State.{DeskView, MachineRoomView, RoomyDesk}
+use Rattle.ckr_desk.specs.State.{DeskView, RoomyDesk}
 use Rattle.ckr_desk.specs.Turn.{AnswerStands, AnswerStandsBy, asks, event_of_turn, reply_of, room_behind_answer}
 use Rattle.ckr_desk.specs.Units.{HasTurned, IsPlanned, TakesBy}
 use Rattle.ckr_desk.specs.declared.error.DeskError.{DeskError}

@@ -7,6 +7,5 @@ pub mod Turns
 pub mod Checkpoints
 pub mod Trust
 pub mod Continuations
-pub mod MachineRooms
 pub mod Attendances
 pub mod AskedVolumes

@@ -6,7 +6,7 @@ use Rattle.ckr_console.specs.declared.question.Answer.{Answer}
 use Rattle.ckr_events.specs.declared.event.Event.{Event}
 use Rattle.ckr_desk_refines.specs.Memory.MountMemory.{none_prepared}
 use Rattle.ckr_desk_refines.specs.Memory.View.{JobsView}
-use Rattle.ckr_queue.specs.Mounts.{given_up, held_at}
+use Rattle.ckr_queue.specs.Mounts.{held_at}
 use Rattle.ckr_queue.specs.Units.{is_volume_list}
 use Rattle.ckr_volumes.specs.declared.layout.Layout.{Layout}
 use Rattle.ckr_desk_turn.specs.Inquiries.{is_ask}
@@ -22,11 +22,11 @@ use Rattle.ckr_desk_turn.specs.declared.taking.Taking.TheVariants.{Taken}
 use Rattle.ckr_desk_store.specs.OpenImages.{event_records}
 use Rattle.ckr_desk.specs.declared.error.DeskError.{DeskError}
 use Rattle.ckr_desk.specs.declared.error.DeskError.TheVariants.{NoMemory, BookFull, Stopped}
-use Rattle.ckr_desk.specs.MachineRoom.{FitsUnits, behind_attempt}
+use Rattle.ckr_desk_turn.specs.MachineRoom.{FitsUnits, MachineRoomView, behind_attempt, given_up_if}
 use Rattle.ckr_desk.specs.Preparation.{IsPreparedToSettle, IsTellingPlan}
 use Rattle.ckr_desk.specs.Requests.{FailsBy, came_by, spelled}
 use Rattle.ckr_desk.specs.Soundness.{IsTrusted, KeepsWithin, state_of}
-use Rattle.ckr_desk.specs.State.{DeskView, MachineRoomView, RoomyDesk, machine_room_of}
+use Rattle.ckr_desk.specs.State.{DeskView, RoomyDesk, machine_room_of}
 use Rattle.ckr_desk.specs.Turn.{asks, behind_turn, event_of_turn, reply_of, room_behind_answer, turn_fits}
 use Rattle.ckr_desk.specs.Units.{TakesBy}
 
@@ -85,10 +85,6 @@ with_room_taken initiator takes room = record room { mounts = with_taken initiat
 -- and where it has taken its volumes
 unfoldable pub room_taken : AttendedDesk → Turn → MachineRoomView
 room_taken desk turn = with_room_taken turn.initiator (attempt_in desk turn).takes (room_behind_answers desk turn)
-
-abbrev pub given_up_if : Bool → ℕ → MachineRoomView → MachineRoomView
-given_up_if true initiator room = record room { mounts = given_up initiator room.mounts }
-given_up_if false initiator room = room
 
 unfoldable pub behind_attended : AttendedDesk → Turn → AttendedDesk
 behind_attended desk turn = record {

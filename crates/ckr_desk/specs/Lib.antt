@@ -1,7 +1,6 @@
 pub mod State
 pub mod Calls
 pub mod Requests
-pub mod MachineRoom
 pub mod Turn
 pub mod Errors
 pub use Rattle.ckr_desk_refines.specs.DiskEntries.Entries

@@ -1,7 +1,6 @@
 -- The desk on its disk: the open disk, the jobs in memory, and the machine room.
 use Rattle.std.specs.Prelude.{◌≡◌, ℕ, ◌+◌, List, length, Option, None}
 use Rattle.ckr_book.specs.Book.{room_of}
-use Rattle.ckr_console.specs.Answering.{Answering}
 use Rattle.ckr_events.specs.declared.event.Event.{Event}
 use Rattle.ckr_events.specs.Event.{spelling}
 use Rattle.ckr_desk_refines.specs.Memory.Invariant.{AreJobs}
@@ -9,20 +8,11 @@ use Rattle.ckr_desk_refines.specs.Memory.OwnSteps.{AreLeft, HoldTheirOwn}
 use Rattle.ckr_desk_refines.specs.Memory.View.{JobsView}
 use Rattle.ckr_points.specs.Rows.{TablesModel}
 use Rattle.ckr_desk_store.specs.State.{IsSound, StoreView}
-use Rattle.ckr_queue.specs.Mounts.{MountTable, no_mounts}
 use Rattle.ckr_desk_turn.specs.declared.failed_run.FailedRun.{FailedRun}
 use Rattle.ckr_desk_turn.specs.Desk.{DeskModel}
+pub use Rattle.ckr_desk_turn.specs.MachineRoom.{MachineRoomView, room_at_first}
 use Rattle.ckr_desk_turn.specs.Queue.{AreNumbered}
 use Rattle.ckr_volumes.specs.declared.layout.Layout.{Layout}
-
--- what the operator in office answers, or None where nobody is in office, and the volumes on the units
-pub record MachineRoomView : Type 0 where
-  pub operator : Option Answering
-  pub mounts : MountTable
-
--- at the opening of a desk: this operator is in office, and all units are empty
-abbrev pub room_at_first : Layout → Option Answering → MachineRoomView
-room_at_first layout operator = record { operator = operator; mounts = no_mounts layout.units }
 
 pub record DeskView (D : Type 0) : Type 0 where
   pub store : StoreView D

@@ -7,7 +7,8 @@ use Rattle.ckr_desk_turn.specs.Turns.{MountedTurn, turn_of}
 use Rattle.ckr_points.specs.declared.reply.Reply.{Reply}
 use Rattle.ckr_desk.specs.declared.error.DeskError.{DeskError}
 use Rattle.ckr_desk.specs.declared.error.DeskError.TheVariants.{NoMemory, BookFull}
-use Rattle.ckr_desk.specs.State.{MachineRoomView, RoomyDesk}
+use Rattle.ckr_desk.specs.State.{RoomyDesk}
+use Rattle.ckr_desk_turn.specs.MachineRoom.{MachineRoomView}
 use Rattle.ckr_desk.specs.Requests.{has_room, room_behind}
 
 unfoldable pub reply_of : RoomyDesk → MountedTurn → Answer → Reply

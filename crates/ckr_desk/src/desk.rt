@@ -22,11 +22,11 @@ ghost use Rattle.ckr_desk.specs.State.{IsOpen, disk_of, layout_of, machine_room_
 
 use crate::DeskError;
 use crate::event_bytes::EventBytes;
-use crate::machine_room::MachineRoom;
 use crate::preparation::Ready;
 use ckr_console::Operator;
 use ckr_desk_refines::{Jobs, shared_deck};
 use ckr_desk_store::Store;
+use ckr_desk_turn::MachineRoom;
 use ckr_events::Event;
 use ckr_jcl::Job;
 use ckr_library::Library;

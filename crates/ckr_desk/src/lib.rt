@@ -9,7 +9,6 @@ mod desk;
 mod entries;
 mod error;
 mod event_bytes;
-mod machine_room;
 mod mount;
 mod opening;
 mod plan;

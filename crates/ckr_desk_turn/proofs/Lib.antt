@@ -1,4 +1,5 @@
 pub mod Codes
+pub mod MachineRooms
 pub mod RunningSteps
 pub mod OtherRuns
 pub mod AdmittedSteps

@@ -1,3 +1,4 @@
+pub mod MachineRoom
 pub mod NextEvents
 pub mod Invariant
 pub mod Allocation

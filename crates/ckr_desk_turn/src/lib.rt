@@ -11,6 +11,7 @@ mod event_laws;
 mod events;
 mod failed_run;
 mod inquiry;
+mod machine_room;
 mod mount_laws;
 mod opening_law;
 mod plan;
@@ -48,6 +49,7 @@ pub use events::{
 };
 pub use failed_run::FailedRun;
 pub use inquiry::Inquiry;
+pub use machine_room::MachineRoom;
 pub use mount_laws::plans_with_their_volumes_stay;
 pub use opening_law::{opened_desks_are_desks, sound_events_open_to_a_desk};
 pub use plan::Plan;

@@ -32,7 +32,8 @@ use Rattle.ckr_desk.proofs.Turns.Resting.{turned-resting}
 use Rattle.ckr_desk.specs.Checkpoint.{IsUnfit}
 use Rattle.ckr_desk.specs.Rewrite.{OpensSame}
 use Rattle.ckr_desk.specs.Soundness.{IsTrusted, office_on, state_of}
-use Rattle.ckr_desk.specs.State.{DeskView, MachineRoomView}
+use Rattle.ckr_desk.specs.State.{DeskView}
+use Rattle.ckr_desk_turn.specs.MachineRoom.{MachineRoomView}
 use Rattle.ckr_desk.specs.Units.{HasTurned}
 
 -- where nothing is made, and what fits could be written, it doesn't fit

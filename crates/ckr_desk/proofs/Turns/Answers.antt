@@ -13,7 +13,8 @@ use Rattle.ckr_desk.specs.Preparation.{NotFit}
 use Rattle.ckr_desk.specs.Rewrite.{IsFault}
 use Rattle.ckr_desk.proofs.Trust.Sameness.{IsAsBefore, state-same}
 use Rattle.ckr_desk.specs.Soundness.{IsTrusted, state_of}
-use Rattle.ckr_desk.specs.State.{DeskView, MachineRoomView, RoomyDesk}
+use Rattle.ckr_desk.specs.State.{DeskView, RoomyDesk}
+use Rattle.ckr_desk_turn.specs.MachineRoom.{MachineRoomView}
 use Rattle.ckr_desk.specs.Turn.{AnswerStands, AnswerStandsBy, asks, room_behind_answer}
 use Rattle.ckr_desk_turn.specs.Turns.{IsMountedTurnOf, MountedTurn, plan_for}
 use Rattle.ckr_points.specs.declared.reply.Reply.{Reply}

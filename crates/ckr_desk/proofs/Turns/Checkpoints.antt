@@ -14,7 +14,8 @@ use Rattle.ckr_desk.proofs.Turns.Events.{plans-desk, turned}
 use Rattle.ckr_desk.proofs.Turns.Resting.{turned-resting}
 use Rattle.ckr_desk.specs.Rewrite.{OpensSame}
 use Rattle.ckr_desk.specs.Soundness.{state_of}
-use Rattle.ckr_desk.specs.State.{DeskView, MachineRoomView, RoomyDesk}
+use Rattle.ckr_desk.specs.State.{DeskView, RoomyDesk}
+use Rattle.ckr_desk_turn.specs.MachineRoom.{MachineRoomView}
 use Rattle.ckr_desk.specs.Turn.{asks}
 use Rattle.ckr_desk.specs.Units.{HasTurned, IsPlanned}
 

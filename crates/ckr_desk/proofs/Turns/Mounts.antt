@@ -34,7 +34,7 @@ use Rattle.ckr_desk_turn.specs.Mounts.{Wanting, by_taking, dd_on, ended_at, plan
 use Rattle.ckr_desk_turn.specs.Plans.{allocation_ended}
 use Rattle.ckr_volumes.specs.declared.layout.Layout.{Layout}
 use Rattle.ckr_volumes.specs.Header.{IsHeader}
-use Rattle.ckr_desk.proofs.MachineRooms.{MayCome, wanted-dd}
+use Rattle.ckr_desk_turn.proofs.MachineRooms.{MayCome, wanted-dd}
 use Rattle.ckr_desk.proofs.Turns.Plans.{is_work}
 use Rattle.ckr_desk.proofs.Turns.Readiness.{prepared-by, unfit-unready}
 use Rattle.ckr_desk.specs.Attendance.{EndsUnmounted}
@@ -42,7 +42,8 @@ use Rattle.ckr_desk.specs.Continuation.{PlanKnows, PlanStandsAt}
 use Rattle.ckr_desk.specs.NoChange.{IsOfDisk}
 use Rattle.ckr_desk.specs.Preparation.{IsPreparedPlan, IsPreparedToSettle, IsTellingPlan, NotFit, NotSettled, may_tell}
 use Rattle.ckr_desk.specs.Requests.{IsFull}
-use Rattle.ckr_desk.specs.State.{DeskView, MachineRoomView}
+use Rattle.ckr_desk.specs.State.{DeskView}
+use Rattle.ckr_desk_turn.specs.MachineRoom.{MachineRoomView}
 use Rattle.ckr_desk.specs.Turn.{room_behind_answer}
 use Rattle.ckr_desk.specs.declared.error.DeskError.{DeskError}
 use Rattle.ckr_desk.specs.declared.error.DeskError.TheVariants.{NoMemory, DiskFault, BookFull, Stopped}

@@ -26,7 +26,8 @@ use Rattle.ckr_desk.specs.Preparation.{IsAhead, IsReadyFor, IsToldByUnit, IsWork
 use Rattle.ckr_desk.specs.declared.preparation.Ready.{Ready}
 use Rattle.ckr_desk.proofs.Units.Preparation.{is-ahead, not-settled, out-of, same-on, uncoded-of}
 use Rattle.ckr_steps.specs.Inputs.{AreThere}
-use Rattle.ckr_desk.specs.State.{DeskView, MachineRoomView}
+use Rattle.ckr_desk.specs.State.{DeskView}
+use Rattle.ckr_desk_turn.specs.MachineRoom.{MachineRoomView}
 use Rattle.ckr_desk.specs.Turn.{AnswerStands}
 use Rattle.ckr_desk.specs.Units.{IsAt}
 use Rattle.ckr_desk.specs.declared.error.DeskError.{DeskError}

@@ -13,14 +13,14 @@ use Rattle.ckr_queue.specs.Units.{are_mounted}
 use Rattle.ckr_volumes.specs.declared.layout.Layout.{Layout}
 use Rattle.ckr_desk.proofs.Attendances.{attempt-at, attended-failed, attended-plainly, attended-taking, attended-untaken, held-at-hand, planned-by, unspent-so, unwanted-at-hand}
 use Rattle.ckr_desk.proofs.AskedVolumes.{HasAsked, attempt-by, unasked-alike, wanted-none, wanted-some}
-use Rattle.ckr_desk.proofs.MachineRooms.{takes-none, takes_by}
+use Rattle.ckr_desk_turn.proofs.MachineRooms.{takes-none, takes_by}
 use Rattle.ckr_desk.proofs.Turns.Mounts.{mounted-knows}
 use Rattle.ckr_desk.proofs.Units.Preparation.{err-is}
 use Rattle.ckr_desk.specs.Attendance.{HasAttended, untaken}
 use Rattle.ckr_desk.specs.Continuation.{PlanKnows, PlanStandsAt}
-use Rattle.ckr_desk.specs.MachineRoom.{FitsUnits}
+use Rattle.ckr_desk_turn.specs.MachineRoom.{FitsUnits, MachineRoomView}
 use Rattle.ckr_desk.specs.Soundness.{state_of}
-use Rattle.ckr_desk.specs.State.{DeskView, MachineRoomView}
+use Rattle.ckr_desk.specs.State.{DeskView}
 use Rattle.ckr_desk.specs.Turn.{AnswerStandsBy, asks}
 use Rattle.ckr_desk.specs.Units.{HasTurned, IsPlanned}
 use Rattle.ckr_desk.proofs.desk.Desk.attend.Goals as goal

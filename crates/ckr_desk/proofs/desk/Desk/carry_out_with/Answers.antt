@@ -26,7 +26,8 @@ use Rattle.ckr_desk.specs.Continuation.{PlanKnows, PlanStandsAt}
 use Rattle.ckr_desk.specs.Requests.{MayFail, TellsNumbers}
 use Rattle.ckr_desk.specs.Rewrite.{OpensSame}
 use Rattle.ckr_desk.specs.Soundness.{state_of}
-use Rattle.ckr_desk.specs.State.{MachineRoomView, RoomyDesk}
+use Rattle.ckr_desk.specs.State.{RoomyDesk}
+use Rattle.ckr_desk_turn.specs.MachineRoom.{MachineRoomView}
 use Rattle.ckr_desk.specs.Turn.{AnswerStands, AnswerStandsBy, asks, event_of_turn, reply_of}
 use Rattle.ckr_desk.specs.NoChange.{StaysBy}
 use Rattle.ckr_desk.specs.declared.error.DeskError.TheVariants.{NoMemory}

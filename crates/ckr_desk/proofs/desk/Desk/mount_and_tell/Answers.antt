@@ -9,15 +9,15 @@ use Rattle.ckr_volumes.specs.declared.layout.Layout.{Layout}
 use Rattle.ckr_desk.proofs.Attendances.{asked-at, asked-planned, attended-unprepared, unprepared, wants-so}
 use Rattle.ckr_desk.proofs.AskedVolumes.{asked-alike, asked-may, asked-none, mount-done, mount-failed, mount-refused, run-wanted}
 use Rattle.ckr_desk.proofs.Calls.Stops.{now-left, same-left}
-use Rattle.ckr_desk.proofs.MachineRooms.{MayCome, there-wanted}
+use Rattle.ckr_desk_turn.proofs.MachineRooms.{MayCome, there-wanted}
 use Rattle.ckr_desk.proofs.Turns.Mounts.{ends-unmounted}
 use Rattle.ckr_desk.proofs.Turns.Preparation.{as-before, same-unchanged}
 use Rattle.ckr_desk.proofs.Units.Preparation.{err-is}
 use Rattle.ckr_desk.specs.Attendance.{HasAttended, IsToMount, untaken}
-use Rattle.ckr_desk.specs.MachineRoom.{FitsUnits, are_there}
+use Rattle.ckr_desk_turn.specs.MachineRoom.{FitsUnits, MachineRoomView, are_there}
 use Rattle.ckr_desk.specs.Preparation.{HasMemoryFor}
 use Rattle.ckr_desk.specs.Rewrite.{OpensSame}
-use Rattle.ckr_desk.specs.State.{DeskView, MachineRoomView}
+use Rattle.ckr_desk.specs.State.{DeskView}
 use Rattle.ckr_desk.specs.Units.{HasTurned}
 use Rattle.ckr_desk.proofs.desk.Desk.mount_and_tell.Goals as goal
 

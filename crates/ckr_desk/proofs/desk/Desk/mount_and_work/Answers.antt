@@ -10,7 +10,7 @@ use Rattle.ckr_volumes.specs.declared.layout.Layout.{Layout}
 use Rattle.ckr_desk.proofs.Attendances.{asked-planned, attended-not, attended-unprepared, later-before, later-since, later-sized, unprepared, unworked-lacks, unworked-room, wants-so}
 use Rattle.ckr_desk.proofs.AskedVolumes.{asked-alike, asked-may, asked-none, mount-done, mount-failed, mount-refused, run-wanted}
 use Rattle.ckr_desk.proofs.Calls.Stops.{reads-left}
-use Rattle.ckr_desk.proofs.MachineRooms.{MayCome, there-wanted}
+use Rattle.ckr_desk_turn.proofs.MachineRooms.{MayCome, there-wanted}
 use Rattle.ckr_desk.proofs.Trust.Sameness.{IsAsBefore}
 use Rattle.ckr_desk.proofs.Turns.Mounts.{ends-unmounted}
 use Rattle.ckr_desk.proofs.Turns.Preparation.{seen-alike}
@@ -18,10 +18,10 @@ use Rattle.ckr_desk.proofs.Units.Failures.{unworked-cause}
 use Rattle.ckr_desk.proofs.Units.Mounts.{told-later}
 use Rattle.ckr_desk.proofs.Units.Preparation.{err-is}
 use Rattle.ckr_desk.specs.Attendance.{HasAttended, IsToMount, untaken}
-use Rattle.ckr_desk.specs.MachineRoom.{FitsUnits, are_there}
+use Rattle.ckr_desk_turn.specs.MachineRoom.{FitsUnits, MachineRoomView, are_there}
 use Rattle.ckr_desk.specs.Preparation.{HasMemoryFor, IsToldByUnit}
 use Rattle.ckr_desk.specs.Rewrite.{OpensSame}
-use Rattle.ckr_desk.specs.State.{DeskView, MachineRoomView}
+use Rattle.ckr_desk.specs.State.{DeskView}
 use Rattle.ckr_desk.specs.Units.{HasTurned}
 use Rattle.ckr_desk.proofs.desk.Desk.mount_and_work.Goals as goal
 

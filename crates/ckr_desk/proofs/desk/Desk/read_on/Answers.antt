@@ -2,7 +2,7 @@ use Rattle.std.proofs.Common.{◌≡◌, subst, sym}
 use Rattle.ckr_desk_store.specs.State.{StoreView}
 use Rattle.ckr_desk.specs.Points.{ArePointsRead}
 use Rattle.ckr_desk.specs.FirstSync.{FromSync}
-use Rattle.ckr_desk.proofs.MachineRooms.{units-few}
+use Rattle.ckr_desk_turn.proofs.MachineRooms.{units-few}
 use Rattle.ckr_desk.proofs.desk.Desk.read_on.Goals as goal
 
 pub returns-in-Ok-clause-synced : goal.returns-in-Ok-clause-synced

@@ -10,7 +10,8 @@ use Rattle.ckr_desk.proofs.Turns.Decided.{decided-same, not-ask}
 use Rattle.ckr_desk.proofs.Turns.Readiness.{none-ok, prepared-by, unfit-unready}
 use Rattle.ckr_desk.proofs.Units.Preparation.{err-is}
 use Rattle.ckr_desk.specs.Preparation.{IsPreparedPlan, NotReadyFor, NotSettled}
-use Rattle.ckr_desk.specs.State.{DeskView, MachineRoomView}
+use Rattle.ckr_desk.specs.State.{DeskView}
+use Rattle.ckr_desk_turn.specs.MachineRoom.{MachineRoomView}
 use Rattle.ckr_desk.specs.Turn.{AnswerStands, room_behind_answer}
 use Rattle.ckr_desk.proofs.desk.Desk.settle.Goals as goal
 

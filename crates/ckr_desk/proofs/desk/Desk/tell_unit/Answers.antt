@@ -11,7 +11,7 @@ use Rattle.ckr_desk.proofs.Units.Preparation.{err-is, look-cause, look-takes}
 use Rattle.ckr_desk.proofs.Trust.Counts.{book-short}
 use Rattle.ckr_desk.specs.Requests.{TellsNumbers}
 use Rattle.ckr_desk.specs.Rewrite.{OpensSame}
-use Rattle.ckr_desk.specs.State.{MachineRoomView}
+use Rattle.ckr_desk_turn.specs.MachineRoom.{MachineRoomView}
 use Rattle.ckr_desk.proofs.Turns.Answers.{given-stands, stands-as}
 use Rattle.ckr_desk.proofs.Units.Questions.{asks-ahead, at-step}
 use Rattle.ckr_desk.specs.Preparation.{asks_behind}

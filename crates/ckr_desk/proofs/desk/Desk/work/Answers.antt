@@ -13,7 +13,7 @@ use Rattle.ckr_desk.specs.Requests.{TellsNumbers}
 use Rattle.ckr_desk.specs.Soundness.{state_of}
 use Rattle.ckr_desk.specs.Turn.{AnswerStands, asks, event_of_turn, reply_of}
 use Rattle.ckr_console.specs.Answering.{restart_answer}
-use Rattle.ckr_desk.specs.State.{MachineRoomView}
+use Rattle.ckr_desk_turn.specs.MachineRoom.{MachineRoomView}
 use Rattle.ckr_desk.specs.Units.{HasTurned}
 use Rattle.ckr_desk.proofs.desk.Desk.work.Goals as goal
 

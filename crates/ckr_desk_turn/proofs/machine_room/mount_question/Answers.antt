@@ -3,7 +3,7 @@ use Rattle.std.specs.Option.{option_map_or}
 use Rattle.ckr_base.proofs.Sequences.{get-from}
 use Rattle.ckr_console.specs.declared.question.Question.TheVariants.{Mount}
 use Rattle.ckr_volumes.specs.declared.layout.Volume.{Volume}
-use Rattle.ckr_desk.proofs.machine_room.mount_question.Goals as goal
+use Rattle.ckr_desk_turn.proofs.machine_room.mount_question.Goals as goal
 
 pub returns : goal.returns
 returns c =

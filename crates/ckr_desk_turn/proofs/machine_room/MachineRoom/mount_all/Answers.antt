@@ -1,8 +1,8 @@
 use Rattle.std.proofs.Common.{◌<◌, ap, arith, length, sym}
 use Rattle.ckr_desk_turn.specs.Mounts.{Attempt}
-use Rattle.ckr_desk.specs.MachineRoom.{behind_attempt}
-use Rattle.ckr_desk.proofs.MachineRooms.{among-at, so_far-all, so_far-more, so_far-mounted, so_far-none, so_far-stops, there-at}
-use Rattle.ckr_desk.proofs.machine_room.MachineRoom.mount_all.Goals as goal
+use Rattle.ckr_desk_turn.specs.MachineRoom.{behind_attempt}
+use Rattle.ckr_desk_turn.proofs.MachineRooms.{among-at, so_far-all, so_far-more, so_far-mounted, so_far-none, so_far-stops, there-at}
+use Rattle.ckr_desk_turn.proofs.machine_room.MachineRoom.mount_all.Goals as goal
 
 pub loop-volume-init : goal.loop-volume-init
 loop-volume-init g c = so_far-none c.args.layout.now c.args.volumes.now c.args.self.now c.requires.fit

@@ -3,9 +3,9 @@ use Rattle.ckr_queue.proofs.Lists.{short_list}
 use Rattle.ckr_queue.specs.Mounts.{units_with}
 use Rattle.ckr_queue.specs.Units.{are_mounted, need_of}
 use Rattle.ckr_queue.specs.declared.units.Need.{Need}
-use Rattle.ckr_desk.specs.State.{MachineRoomView}
-use Rattle.ckr_desk.proofs.MachineRooms.{unasked-lacks, unasked-taken}
-use Rattle.ckr_desk.proofs.machine_room.MachineRoom.unasked.Goals as goal
+use Rattle.ckr_desk_turn.specs.MachineRoom.{MachineRoomView}
+use Rattle.ckr_desk_turn.proofs.MachineRooms.{unasked-lacks, unasked-taken}
+use Rattle.ckr_desk_turn.proofs.machine_room.MachineRoom.unasked.Goals as goal
 
 pub overflow_cast-volumes : goal.overflow_cast-volumes
 overflow_cast-volumes g c = omega (arith, short_list c.args.volumes.now c.requires.list)

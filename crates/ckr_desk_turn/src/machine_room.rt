@@ -6,24 +6,24 @@ ghost use Rattle.ckr_desk_turn.specs.Mounts.{asked_for, gives_up, mount_question
 ghost use Rattle.ckr_desk_turn.specs.declared.taking.Taking.TheVariants.{Taken as AllTaken};
 ghost use Rattle.ckr_queue.specs.Mounts.{held_at, units_with, with_held};
 ghost use Rattle.ckr_queue.specs.Units.{are_mounted, is_among, is_volume_list, need_of, IsMountedBeside};
-ghost use Rattle.ckr_desk.specs.Attendance.{given_up_if};
-ghost use Rattle.ckr_desk.specs.MachineRoom.{FitsUnits, IsAskedFor, NeedsNoQuestion, are_there, behind_attempt};
+ghost use Rattle.ckr_desk_turn.specs.MachineRoom.{FitsUnits, IsAskedFor, NeedsNoQuestion, are_there, behind_attempt, given_up_if};
 
+use crate::{Taking, gives_up};
 use ckr_console::{Answer, Console, Operator, Question};
-use ckr_desk_turn::{Reply, Taking, gives_up};
+use ckr_points::Reply;
 use ckr_queue::{Mounts, Need, VolumeList};
 use ckr_volumes::Layout;
 use std::marker::Model;
 
 /// The console, and the units with the volumes on them.
 #[derive(Drop)]
-pub(crate) struct MachineRoom<O: Operator> {
+pub struct MachineRoom<O: Operator> {
     console: Console<O>,
     mounts: Mounts,
 }
 
 impl<O: Operator> Model for MachineRoom<O> {
-    ghost use Rattle.ckr_desk.specs.State.{MachineRoomView};
+    ghost use Rattle.ckr_desk_turn.specs.MachineRoom.{MachineRoomView};
 
     ghost Value = { MachineRoomView };
 
@@ -44,7 +44,7 @@ fn mount_question(layout: &Layout, volume: u8, unit: u8) -> Question
 
 impl<O: Operator> MachineRoom<O> {
     /// This operator is in office, or nobody, and the units are as `mounts` has them.
-    pub(crate) fn new(operator: Option<O>, mounts: Mounts) -> MachineRoom<O>
+    pub fn new(operator: Option<O>, mounts: Mounts) -> MachineRoom<O>
         ensures { result ≡ record { operator = option_map O.answering operator; mounts = mounts } }
     {
         MachineRoom {
@@ -54,14 +54,14 @@ impl<O: Operator> MachineRoom<O> {
     }
 
     /// The next operator takes office, and the former one is dropped.
-    pub(crate) fn shift(&mut self, operator: O)
+    pub fn shift(&mut self, operator: O)
         ensures { self.new ≡ record self.old { operator = Some (O.answering operator) } }
     {
         self.console.shift(operator);
     }
 
     /// The answer of the operator in office. Where nobody is, the question stays unanswered.
-    pub(crate) fn ask(&mut self, question: &Question) -> Answer
+    pub fn ask(&mut self, question: &Question) -> Answer
         ensures answer { result ≡ answer_in_office question.now self.old.operator }
         ensures behind { self.new ≡ record self.old { operator = asked self.old.operator } }
     {
@@ -69,7 +69,7 @@ impl<O: Operator> MachineRoom<O> {
     }
 
     /// Whether the step on an initiator, from 1 to 8, holds its volumes.
-    pub(crate) fn holds(&self, initiator: u8) -> bool
+    pub fn holds(&self, initiator: u8) -> bool
         requires above { 1 ≤ initiator }
         requires below { initiator ≤ 8 }
         ensures { result ≡ is_some (held_at self.now.mounts initiator) }
@@ -79,7 +79,7 @@ impl<O: Operator> MachineRoom<O> {
 
     /// What becomes of the volumes that a step wants, where nobody is to be asked for it: they need more units than there are, or than are free, or
     /// all of them are on units. None where the operator is to be asked; then they need no more units than are free, and one of them is on no unit.
-    pub(crate) fn unasked(&self, layout: &Layout, volumes: &[u8]) -> Option<Taking>
+    pub fn unasked(&self, layout: &Layout, volumes: &[u8]) -> Option<Taking>
         requires list { IsTrue (is_volume_list volumes.now) }
         ensures some { IfSome result (λ taking. NeedsNoQuestion layout.now volumes.now self.now taking) }
         ensures none { result ≡ None → FitsUnits layout.now volumes.now self.now }
@@ -124,7 +124,7 @@ impl<O: Operator> MachineRoom<O> {
 
     /// Has the volumes mounted that a step wants, which need no more units than are free: one question for each that is on no unit, in their order, until one
     /// isn't answered with yes. Those that were mounted stay so.
-    pub(crate) fn mount_all(&mut self, layout: &Layout, volumes: &[u8]) -> Taking
+    pub fn mount_all(&mut self, layout: &Layout, volumes: &[u8]) -> Taking
         requires list { IsTrue (is_volume_list volumes.now) }
         requires there { IsTrue (are_there layout.now volumes.now) }
         requires fit { FitsUnits layout.now volumes.now self.old }
@@ -142,7 +142,7 @@ impl<O: Operator> MachineRoom<O> {
     }
 
     /// The step on an initiator takes its volumes, all of which are on units. It held none before.
-    pub(crate) fn take(&mut self, initiator: u8, volumes: VolumeList)
+    pub fn take(&mut self, initiator: u8, volumes: VolumeList)
         requires above { 1 ≤ initiator }
         requires below { initiator ≤ 8 }
         requires none { held_at self.old.mounts initiator ≡ None }
@@ -154,7 +154,7 @@ impl<O: Operator> MachineRoom<O> {
     }
 
     /// Behind a turn with such a reply the step on its initiator gives its volumes up, or keeps them. Those that it gives up stay on their units.
-    pub(crate) fn give_up_behind(&mut self, initiator: u8, reply: &Reply)
+    pub fn give_up_behind(&mut self, initiator: u8, reply: &Reply)
         requires above { 1 ≤ initiator }
         requires below { initiator ≤ 8 }
         ensures { self.new ≡ given_up_if (gives_up reply.now) initiator self.old }

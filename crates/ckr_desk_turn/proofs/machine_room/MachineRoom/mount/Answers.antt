@@ -3,9 +3,9 @@ use Rattle.ckr_desk_turn.specs.Mounts.{mounted_all, not_taken}
 use Rattle.ckr_desk_turn.specs.declared.taking.Taking.TheVariants.{Awaited, Refused}
 use Rattle.ckr_queue.specs.Mounts.{MountTable, units_with}
 use Rattle.ckr_queue.specs.Units.{IsMountedBeside, need_of, unit_for_of}
-use Rattle.ckr_desk.specs.State.{MachineRoomView}
-use Rattle.ckr_desk.proofs.MachineRooms.{asked-refused, asked-silent, asked-yes, beside-itself}
-use Rattle.ckr_desk.proofs.machine_room.MachineRoom.mount.Goals as goal
+use Rattle.ckr_desk_turn.specs.MachineRoom.{MachineRoomView}
+use Rattle.ckr_desk_turn.proofs.MachineRooms.{asked-refused, asked-silent, asked-yes, beside-itself}
+use Rattle.ckr_desk_turn.proofs.machine_room.MachineRoom.mount.Goals as goal
 
 pub unit_for-requires-clause-fit : goal.unit_for-requires-clause-fit
 unit_for-requires-clause-fit g c =

@@ -33,8 +33,7 @@ use Rattle.ckr_desk_turn.specs.declared.taking.Taking.{Taking}
 use Rattle.ckr_desk_turn.specs.declared.taking.Taking.TheVariants.{Taken, Exceeds, Lacks, Refused, Awaited}
 use Rattle.ckr_volumes.specs.Header.{IsHeader}
 use Rattle.ckr_volumes.specs.declared.layout.Layout.{Layout}
-use Rattle.ckr_desk.specs.MachineRoom.{FitsUnits, IsAskedFor, NeedsNoQuestion, are_there, behind_attempt}
-use Rattle.ckr_desk.specs.State.{MachineRoomView}
+use Rattle.ckr_desk_turn.specs.MachineRoom.{FitsUnits, IsAskedFor, MachineRoomView, NeedsNoQuestion, are_there, behind_attempt}
 
 pub units-few : (layout : Layout) (size : ℕ) → IsHeader layout size → layout.units ≤ 16
 units-few layout size header = nat_le-true layout.units 16 (and-second (nat_le 1 layout.units) (nat_le layout.units 16) header.units)

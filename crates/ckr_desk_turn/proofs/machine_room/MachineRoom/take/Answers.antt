@@ -1,8 +1,8 @@
 use Rattle.std.proofs.Common.{IsTrue, [], subst, sym}
 use Rattle.ckr_queue.specs.Mounts.{units_with}
 use Rattle.ckr_queue.specs.Units.{are_mounted}
-use Rattle.ckr_desk.specs.State.{MachineRoomView}
-use Rattle.ckr_desk.proofs.machine_room.MachineRoom.take.Goals as goal
+use Rattle.ckr_desk_turn.specs.MachineRoom.{MachineRoomView}
+use Rattle.ckr_desk_turn.proofs.machine_room.MachineRoom.take.Goals as goal
 
 pub take-requires-clause-mounted : goal.take-requires-clause-mounted
 take-requires-clause-mounted g c =
