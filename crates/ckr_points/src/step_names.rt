@@ -67,7 +67,7 @@ pub(crate) fn has_output_name(root: u32, owner: u32, step: &Step, name: &DsName)
 }
 
 /// Whether the data set of a DD is for the printer.
-fn is_sysout(origin: &Origin) -> bool
+pub fn is_sysout(origin: &Origin) -> bool
     ensures { result ≡ is_sysout origin.now }
 {
     matches!(origin, Origin::Sysout)
@@ -83,7 +83,7 @@ fn is_any_sysout(root: u32, owner: u32, step: &Name8, dds: &[Dd], name: &DsName)
 }
 
 /// Whether a step has the name for the printer.
-pub(crate) fn has_sysout_name(root: u32, owner: u32, step: &Step, name: &DsName) -> bool
+pub fn has_sysout_name(root: u32, owner: u32, step: &Step, name: &DsName) -> bool
     requires root { root ≤ 9999999 }
     requires owner { owner ≤ 9999999 }
     ensures { result ≡ is_among (sysout_names root (owned step.now owner [])) name.now }

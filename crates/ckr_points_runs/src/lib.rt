@@ -26,7 +26,7 @@ pub use marking::Marking;
 pub use marks_in_order::MarksInOrder;
 pub use own_step::OwnStep;
 pub use put_back::{
-    delete_all_made, delete_made, put_back_catalog, put_back_lengths, put_back_passed,
+    delete_all_made, delete_printed, put_back_catalog, put_back_lengths, put_back_passed,
     put_back_sets,
 };
 pub use rewrite::{master_dd, master_name};

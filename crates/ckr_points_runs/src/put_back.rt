@@ -4,6 +4,7 @@ ghost use Rattle.std.specs.Option.{option_map_or};
 ghost use Rattle.ckr_library.specs.Catalog.{with_catalog, Holding};
 ghost use Rattle.ckr_library.specs.NameMaps.{are_named_in_order, entry_at, with_changed, without_entry, EachEntry};
 ghost use Rattle.ckr_meaning.specs.EffectiveJob.{names_of};
+ghost use Rattle.ckr_points.specs.Marks.{sysout_names};
 ghost use Rattle.ckr_points_library.specs.Commit.{output_names};
 ghost use Rattle.ckr_points_runs.specs.RunJobs.{own_of};
 ghost use Rattle.ckr_points_runs.specs.PutBack.{all_made_gone, catalog_back, catalogs_back, cut_back, length_back, lengths_back, made_gone, sets_back};
@@ -14,7 +15,7 @@ use crate::start::put_passed;
 use ckr_base::DsName;
 use ckr_entry::{Mark, Passed, PassedList, Present};
 use ckr_library::Library;
-use ckr_points::{is_marked_absent, present_at};
+use ckr_points::{is_marked_absent, is_sysout, present_at};
 use ckr_points_library::output_name;
 use ckr_uses::library_name;
 
@@ -28,7 +29,7 @@ pub(crate) fn delete(name: &DsName, library: &mut Library)
 }
 
 /// A data set goes that a point marks absent. One that it marks otherwise, or not at all, stays.
-pub fn delete_made(marks: &[Mark], name: &DsName, library: &mut Library)
+fn delete_made(marks: &[Mark], name: &DsName, library: &mut Library)
     ensures { library.new.sets ≡ made_gone marks.now name.now library.old.sets }
 {
     if is_marked_absent(marks, name) {
@@ -44,6 +45,21 @@ pub fn delete_all_made(root: u32, own: &OwnStep<'_>, marks: &[Mark], library: &m
 {
     for dd in own.step.dds.as_slice() {
         if let Some(name) = library_name(dd, root, own.owner, &own.step.name) {
+            delete_made(marks, &name, library);
+        }
+    }
+}
+
+/// The data sets go that a step made for the printer: those of its names for it that the point at its start marks absent.
+pub fn delete_printed(root: u32, own: &OwnStep<'_>, marks: &[Mark], library: &mut Library)
+    requires root { root ≤ 9999999 }
+    requires owner { own.now.owner ≤ 9999999 }
+    ensures { library.new.sets ≡ all_made_gone marks.now (sysout_names root (own_of own.now)) library.old.sets }
+{
+    for dd in own.step.dds.as_slice() {
+        if is_sysout(&dd.origin)
+            && let Some(name) = library_name(dd, root, own.owner, &own.step.name)
+        {
             delete_made(marks, &name, library);
         }
     }

@@ -11,14 +11,14 @@ ghost use Rattle.ckr_points_tables.specs.Selection.{begun_facts, carried_in, car
 ghost use Rattle.ckr_points_runs.specs.View.{code_of, facts_of, point_of, seen_by, table_of, written_of};
 ghost use Rattle.ckr_points_tables.specs.View.{point_for};
 
-use crate::restart::{count_of, entry_for, kept_under, marks_of, passed_of, writes_of};
+use crate::restart::{count_of, entry_for, marks_of, passed_of, writes_of};
 use crate::rooms::dds_of;
 use ckr_base::{CheckId, DsName, NoMemory, RoomyList};
 use ckr_entry::{Mark, Marks, Passed, PassedList};
 use ckr_jcl::Job;
 use ckr_library::{Kept, Library};
 use ckr_meaning::Place;
-use ckr_points::syschk_name;
+use ckr_points::{kept_under, syschk_name};
 use ckr_points_runs::{
     EffectiveJob, InEffect, LostNames, Marking, MarksInOrder, ReturnCode, RunTable, StepPoint,
     StepPoints, WrittenEntries, has_step, mark_job, point_at, put_marks, put_passed,

@@ -7,12 +7,12 @@ ghost use Rattle.ckr_points.specs.Restart.{kept_at};
 ghost use Rattle.ckr_points_tables.specs.Entries.{entry_in};
 
 use crate::Tables;
-use crate::restart::{entry_for, kept_under, marks_of};
+use crate::restart::{entry_for, marks_of};
 use ckr_base::{CheckId, DsName};
 use ckr_entry::Mark;
 use ckr_jcl::{Job, Step};
 use ckr_library::Kept;
-use ckr_points::is_of_step;
+use ckr_points::{is_of_step, kept_under};
 use ckr_points_runs::WrittenEntry;
 
 /// An entry that a data set keeps.

@@ -1,12 +1,10 @@
 //! An automatic restart.
-ghost use Rattle.std.specs.Prelude.{◌≡◌, ◌≤◌, ◌<◌, find, length, map, slice_get, None, Option, Some};
+ghost use Rattle.std.specs.Prelude.{◌≡◌, ◌≤◌, ◌<◌, length, map, slice_get, None, Option, Some};
 ghost use Rattle.std.specs.Option.{option_copied, option_map};
 ghost use Rattle.ckr_base.specs.declared.code.Code.{Code as CodeOfStep};
 ghost use Rattle.ckr_events.specs.declared.event.Event.TheVariants.{Restarted};
 ghost use Rattle.ckr_jcl.specs.declared.deck.Job.{Job as JobOfDeck};
-ghost use Rattle.ckr_library.specs.Catalog.{kept_of};
-ghost use Rattle.ckr_library.specs.NameMaps.{same_name, EachEntry};
-ghost use Rattle.ckr_library.specs.declared.sets.Kept.{Kept as KeptEntry};
+ghost use Rattle.ckr_library.specs.NameMaps.{EachEntry};
 ghost use Rattle.ckr_points.specs.Marks.{point_at, with_point};
 ghost use Rattle.ckr_points.specs.Restart.{after_event, effect_restarted, kept_at, point_restarted};
 ghost use Rattle.ckr_points.specs.Rows.{EffectPoint, KeptEntry as EntryOfSet, StartPoint};
@@ -24,7 +22,7 @@ use ckr_base::{CheckId, DsName};
 use ckr_entry::{Mark, Passed};
 use ckr_library::{Kept, Library};
 use ckr_meaning::Place;
-use ckr_points::{Run, RunState};
+use ckr_points::{Run, RunState, kept_under};
 use ckr_points_runs::{
     RunTable, WrittenEntries, WrittenEntry, delete_all_made, point_at, put_back_passed,
     put_back_sets, step_at, step_now,
@@ -122,16 +120,6 @@ fn restart_at_start(
     go_back(Place::Opened(step), count, table);
     count_at_start(step, table);
     go_on(initiator, line);
-}
-
-/// The first entry of an identifier that a data set keeps.
-pub(crate) fn kept_under<'a>(library: &'a Library, set: &DsName, id: &CheckId) -> Option<&'a Kept>
-    ensures { option_copied result ≡ find (λ (one : KeptEntry). same_name one.id id.now) (kept_of library.now set.now) }
-{
-    library
-        .entries(set)
-        .iter()
-        .find(|one| one.id.text().cmp(id.text()).is_eq())
 }
 
 /// Whether this is the entry that the data set of a name keeps.

@@ -19,11 +19,12 @@ ghost use Rattle.ckr_points_runs.specs.Start.{HasPointRoom};
 
 use crate::Tables;
 use crate::continuation::continuation;
-use crate::restart::{entry_for, kept_under, passed_of};
+use crate::restart::{entry_for, passed_of};
 use ckr_base::{CheckId, DsName, NoMemory};
 use ckr_entry::Passed;
 use ckr_events::Event;
 use ckr_library::Library;
+use ckr_points::kept_under;
 use ckr_points_runs::{
     EffectiveJob, RunTable, Spare, WrittenEntries, checkpoint_name, point_at, step_at, step_now,
 };

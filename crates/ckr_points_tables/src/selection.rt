@@ -4,18 +4,16 @@ ghost use Rattle.std.specs.List.{list_any};
 ghost use Rattle.std.specs.Option.{is_none, option_copied, option_map, option_map_or, option_or};
 ghost use Rattle.ckr_events.specs.declared.event.Event.TheVariants.{Selected};
 ghost use Rattle.ckr_jcl.specs.declared.deck.Job.{Job as JobOfDeck};
-ghost use Rattle.ckr_jcl.specs.declared.deck.Dd.{Dd as DdOfStep};
 ghost use Rattle.ckr_jcl.specs.declared.deck.Step.{Step as StepOfDeck};
-ghost use Rattle.ckr_library.specs.NameMaps.{entry_at, same_name, EachEntry};
-ghost use Rattle.ckr_meaning.specs.EffectiveJob.{is_among, name_of, names_of, owned_by, step_at, OwnedStep as StepWithOwner};
-ghost use Rattle.ckr_points.specs.Marks.{deck_names, is_as_marked, is_sysout, point_at, present_at, same_stamp, still_exists, sysout_names};
+ghost use Rattle.ckr_library.specs.NameMaps.{entry_at, EachEntry};
+ghost use Rattle.ckr_meaning.specs.EffectiveJob.{is_among, names_of, owned_by, step_at, OwnedStep as StepWithOwner};
+ghost use Rattle.ckr_points.specs.Marks.{deck_names, is_as_marked, point_at, present_at, same_stamp, still_exists};
 ghost use Rattle.ckr_points.specs.Restart.{after_event, without_names};
 ghost use Rattle.ckr_points.specs.Rows.{StartPoint, TableSet};
 ghost use Rattle.ckr_points.specs.Syschk.{names_its_set};
 ghost use Rattle.ckr_entry.specs.declared.point.Present.{Present as PresentInMark};
 ghost use Rattle.ckr_points_tables.specs.Invariant.{HasRoom, MayContinue, MayFollow};
-ghost use Rattle.ckr_points_runs.specs.PutBack.{IsFilled};
-ghost use Rattle.ckr_points_runs.specs.PutBack.{all_made_gone, catalogs_back};
+ghost use Rattle.ckr_points_runs.specs.PutBack.{catalogs_back, IsFilled};
 ghost use Rattle.ckr_points_runs.specs.RunJobs.{effective, names_in, own_of, IsFitting};
 ghost use Rattle.ckr_points_runs.specs.RunMarks.{names_from, own_names_of};
 ghost use Rattle.ckr_points_tables.specs.Selection.{entries_in, lost_by, printed_names, resumed, sets_resumed, HasLostRoom, IsResumed, Resumption as ResumptionOfRun};
@@ -27,56 +25,14 @@ use crate::event::put_at;
 use crate::restart::go_on;
 use ckr_base::{CheckId, DsName};
 use ckr_entry::{Mark, Passed, Present};
-use ckr_jcl::{Dd, Job, Origin, Step};
+use ckr_jcl::{Job, Step};
 use ckr_library::{DataSet, Library, Stamp};
-use ckr_points::present_at;
+use ckr_points::{has_sysout_name, present_at};
 use ckr_points_runs::{
-    EffectiveJob, LostNames, OwnStep, RunTable, WrittenEntries, delete_made, has_name,
+    EffectiveJob, LostNames, OwnStep, RunTable, WrittenEntries, delete_printed, has_name,
     has_name_from, own_from, point_at, put_back_catalog, put_back_lengths, step_at,
 };
-use ckr_uses::{has_set_named, library_name};
-
-/// Whether the data set of a DD is for the printer.
-fn is_sysout(origin: &Origin) -> bool
-    ensures { result ≡ is_sysout origin.now }
-{
-    matches!(origin, Origin::Sysout)
-}
-
-/// Whether the data set of one of these DDs has the name, and is for the printer.
-fn is_any_sysout(root: u32, own: &OwnStep<'_>, dds: &[Dd], name: &DsName) -> bool
-    requires root { root ≤ 9999999 }
-    requires owner { own.now.owner ≤ 9999999 }
-    ensures { result ≡ list_any (λ (dd : DdOfStep). is_sysout dd.origin && option_map_or (same_name name.now) (name_of root (own_of own.now) dd) false) dds.now }
-{
-    dds.iter().any(|dd| {
-        is_sysout(&dd.origin) && has_set_named(dd, root, own.owner, &own.step.name, name)
-    })
-}
-
-/// Whether a step has the name for the printer.
-fn has_sysout_name(root: u32, own: &OwnStep<'_>, name: &DsName) -> bool
-    requires root { root ≤ 9999999 }
-    requires owner { own.now.owner ≤ 9999999 }
-    ensures { result ≡ is_among (sysout_names root (own_of own.now)) name.now }
-{
-    is_any_sysout(root, own, own.step.dds.as_slice(), name)
-}
-
-/// The data sets go that a step made for the printer: those of its names for it that the point at its start marks absent.
-fn delete_printed(root: u32, own: &OwnStep<'_>, marks: &[Mark], library: &mut Library)
-    requires root { root ≤ 9999999 }
-    requires owner { own.now.owner ≤ 9999999 }
-    ensures { library.new.sets ≡ all_made_gone marks.now (sysout_names root (own_of own.now)) library.old.sets }
-{
-    for dd in own.step.dds.as_slice() {
-        if is_sysout(&dd.origin)
-            && let Some(name) = library_name(dd, root, own.owner, &own.step.name)
-        {
-            delete_made(marks, &name, library);
-        }
-    }
-}
+use ckr_uses::library_name;
 
 /// Whether a step, if there is one, has the name for the printer.
 fn is_printed(root: u32, printing: Option<&OwnStep<'_>>, name: &DsName) -> bool
@@ -85,7 +41,7 @@ fn is_printed(root: u32, printing: Option<&OwnStep<'_>>, name: &DsName) -> bool
     ensures { result ≡ is_among (printed_names root (option_map own_of (option_copied printing.entry))) name.now }
 {
     match printing {
-        Some(own) => has_sysout_name(root, own, name),
+        Some(own) => has_sysout_name(root, own.owner, own.step, name),
         None => false,
     }
 }

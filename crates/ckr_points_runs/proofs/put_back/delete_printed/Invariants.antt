@@ -5,7 +5,7 @@ use Rattle.ckr_meaning.specs.EffectiveJob.{name_of}
 use Rattle.ckr_points.specs.Marks.{is_sysout}
 use Rattle.ckr_points_runs.specs.RunJobs.{own_of}
 use Rattle.ckr_points_runs.specs.PutBack.{all_made_gone}
-use Rattle.ckr_points_tables.proofs.selection.delete_printed.Given as goal
+use Rattle.ckr_points_runs.proofs.put_back.delete_printed.Given as goal
 
 abbrev pub invariant-loop-dd : goal.invariant-loop-dd
 invariant-loop-dd l =
