@@ -1,6 +1,6 @@
 //! Streams and statements as they are punched.
 
-use ckr_cards::{CutState, Cutter, Line, StatementKind, read_statement, stored_line};
+use ckr_cards::{CutState, Cutter, Line, Statement, StatementKind, read_statement, stored_line};
 use std::test::Fail;
 
 /// A stream: each line, and what it is.
@@ -28,6 +28,15 @@ fn lines_of_a_stream(rt: HostRuntime) {
     }
 }
 
+/// The DD of name IN, with two cards behind it, three operands and the delimiter.
+fn is_whole(statement: &Statement) -> bool {
+    statement.kind == StatementKind::Dd
+        && statement.name() == b"IN".as_slice()
+        && statement.cards_behind() == 2
+        && statement.operands.as_slice().len() == 3
+        && statement.ended
+}
+
 /// A DD with a continuation card and a record, and the delimiter behind it.
 #[test]
 fn statement_of_a_deck(rt: HostRuntime) -> Result<(), Fail> {
@@ -38,10 +47,6 @@ fn statement_of_a_deck(rt: HostRuntime) -> Result<(), Fail> {
         stored_line(b"/*"),
     ];
     let statement = read_statement(rt.alloc(), 7, &first, &rest)?;
-    assert!(rt; statement.kind == StatementKind::Dd);
-    assert!(rt; statement.name() == b"IN".as_slice());
-    assert!(rt; statement.cards_behind() == 2);
-    assert!(rt; statement.operands.as_slice().len() == 3);
-    assert!(rt; statement.ended);
+    assert!(rt; is_whole(&statement));
     Ok(())
 }

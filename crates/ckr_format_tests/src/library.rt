@@ -93,12 +93,15 @@ fn are_packed(library: &Library) -> bool {
         && !library.is_free(0, 1599, 80)
 }
 
+/// Three data sets stand under their names, two of them one behind the other on volume 0.
+fn are_kept(library: &mut Library) -> Result<bool, NoMemory> {
+    Ok(are_entered(library)? && are_spread(library.spans_on(0)) && are_packed(library))
+}
+
 #[test]
 fn keeps_data_sets_by_name(rt: HostRuntime) -> Result<(), Fail> {
     let mut library = Library::new(rt.alloc());
-    assert!(rt; are_entered(&mut library)?);
-    assert!(rt; are_spread(library.spans_on(0)));
-    assert!(rt; are_packed(&library));
+    assert!(rt; are_kept(&mut library)?);
     Ok(())
 }
 
@@ -124,14 +127,25 @@ fn is_gone(library: &Library, name: &DsName) -> bool {
     library.get(name).is_none() && library.spans_on(0).is_empty()
 }
 
+/// A data set that is there is changed, and then taken out.
+fn comes_and_goes(library: &mut Library, name: &DsName) -> bool {
+    change(library, name);
+    let changed = is_changed(library, name);
+    take_out(library, name);
+    changed && is_gone(library, name)
+}
+
+/// One is entered, changed and taken out.
+fn is_changed_and_gone(library: &mut Library) -> Result<bool, NoMemory> {
+    let Some(name) = DsName::read(b"OUT.K") else {
+        return Ok(false);
+    };
+    Ok(add(library, b"OUT.K", set_at(0, 0))? && comes_and_goes(library, &name))
+}
+
 #[test]
 fn changes_a_data_set(rt: HostRuntime) -> Result<(), Fail> {
     let mut library = Library::new(rt.alloc());
-    let name = DsName::read(b"OUT.K").ok_or("a name")?;
-    assert!(rt; add(&mut library, b"OUT.K", set_at(0, 0))?);
-    change(&mut library, &name);
-    assert!(rt; is_changed(&library, &name));
-    take_out(&mut library, &name);
-    assert!(rt; is_gone(&library, &name));
+    assert!(rt; is_changed_and_gone(&mut library)?);
     Ok(())
 }

@@ -211,22 +211,30 @@ fn are_two_cards(bytes: Option<&[u8]>) -> bool {
     }
 }
 
+/// Two cards come, and the deck is cleared.
+fn has_two_cards(deck: &mut OpenDeck) -> Result<bool, NoMemory> {
+    let empty = deck.is_empty();
+    push_line(deck, b"//COPY1 JOB")?;
+    push_line(deck, &[b'x'; 81])?;
+    let two = deck.count() == 2 && are_two_cards(deck.bytes());
+    deck.clear();
+    Ok(empty && two && deck.is_empty())
+}
+
+/// The cards are there up to the hundred thousandth, and then no more.
+fn has_cards_while_accepted(deck: &mut OpenDeck) -> Result<bool, NoMemory> {
+    for _ in 0..100_000 {
+        push_line(deck, COMMENT)?;
+    }
+    let all = deck.count() == 100_000 && deck.bytes().is_some();
+    push_line(deck, COMMENT)?;
+    Ok(all && deck.count() == 100_001 && deck.bytes().is_none())
+}
+
 /// A deck has its cards as they are stored, 81 bytes each, of which the last tells that the line was longer, as long as it may be accepted.
 #[test]
 fn cards_as_they_are_kept(rt: HostRuntime) -> Result<(), Fail> {
     let mut deck = OpenDeck::new(rt.alloc());
-    assert!(rt; deck.is_empty());
-    push_line(&mut deck, b"//COPY1 JOB")?;
-    push_line(&mut deck, &[b'x'; 81])?;
-    assert!(rt; deck.count() == 2);
-    assert!(rt; are_two_cards(deck.bytes()));
-    deck.clear();
-    assert!(rt; deck.is_empty());
-    for _ in 0..100_000 {
-        push_line(&mut deck, COMMENT)?;
-    }
-    assert!(rt; deck.count() == 100_000 && deck.bytes().is_some());
-    push_line(&mut deck, COMMENT)?;
-    assert!(rt; deck.count() == 100_001 && deck.bytes().is_none());
+    assert!(rt; has_two_cards(&mut deck)? && has_cards_while_accepted(&mut deck)?);
     Ok(())
 }

@@ -111,6 +111,21 @@ fn a_call_that_was_interrupted_is_made_again(rt: HostRuntime) -> Result<(), Fail
     Ok(())
 }
 
+/// Two bytes are written into a file, for good.
+fn keeps_two_bytes(disk: &mut FileDisk) -> bool {
+    disk.write_at(2, &[7, 8]).is_ok() && disk.sync().is_ok()
+}
+
+/// A file that is opened for reading alone has these bytes and zeros around them, and can't be written.
+fn is_read_alone(disk: &mut FileDisk) -> bool {
+    let mut buf = [9; 6];
+    disk.read(1, &mut buf).is_ok()
+        && buf.as_slice() == [0, 7, 8, 0, 0, 0].as_slice()
+        && disk.size() == 4_294_967_296
+        && disk.write_at(0, &[1]).is_err()
+        && disk.faults() == 1
+}
+
 #[test]
 fn a_file_reads_back_what_was_written_and_zeros_behind(rt: HostRuntime) -> Result<(), Fail> {
     let made = File::options()
@@ -118,18 +133,9 @@ fn a_file_reads_back_what_was_written_and_zeros_behind(rt: HostRuntime) -> Resul
         .write(true)
         .create(true)
         .open(&rt, "disk")?;
-    let mut disk = FileDisk::new(Some(made));
-    disk.write_at(2, &[7, 8])?;
-    disk.sync()?;
-    drop(disk);
-    let mut reopened = FileDisk::new(Some(File::open(&rt, "disk")?));
-    let mut buf = [9; 6];
-    reopened.read(1, &mut buf)?;
-    assert!(rt; buf.as_slice() == [0, 7, 8, 0, 0, 0].as_slice());
-    assert!(rt; reopened.size() == 4_294_967_296);
-    // The file was opened for reading alone.
-    assert!(rt; reopened.write_at(0, &[1]).is_err());
-    assert!(rt; reopened.faults() == 1);
+    assert!(rt; keeps_two_bytes(&mut FileDisk::new(Some(made))));
+    let read = File::open(&rt, "disk")?;
+    assert!(rt; is_read_alone(&mut FileDisk::new(Some(read))));
     fs::remove_file(&rt, "disk")?;
     Ok(())
 }

@@ -1,5 +1,6 @@
 //! A small disk in use.
-ghost use Rattle.std.specs.Prelude.{◌≡◌, IsTrue, length};
+ghost use Rattle.std.specs.Prelude.{◌≡◌, ◌≤◌, IsTrue, length};
+ghost use Rattle.ckr_outside.specs.MemDisk.{content_of};
 ghost use Rattle.ckr_volumes.specs.Places.{bytes_of};
 ghost use Rattle.ckr_volumes.specs.Layouts.{is_laid_out, disk_needed, StandsIn};
 
@@ -7,7 +8,7 @@ use crate::journal::worked;
 use arrayvec::ArrayVec;
 use ckr_base::{Rec, Volser};
 use ckr_library::{Content, DataSet, Extent, Library, Part, Stamp};
-use ckr_outside::MemDisk;
+use ckr_outside::{Failed, MemDisk};
 use ckr_volumes::{
     HeaderError, Layout, NoSpace, Volume, allocate, header_bytes, read_header, read_record,
     write_record,
@@ -156,19 +157,46 @@ fn in_two_extents(layout: &Layout) -> DataSet
     }
 }
 
+/// Writes a record of the digit of its place at each of the ten places of a data set.
+fn write_ten(disk: &mut MemDisk, layout: &Layout, set: &DataSet) -> Result<(), Failed>
+    requires laid { IsTrue (is_laid_out layout.now) }
+    requires fits { disk_needed layout.now ≤ length (content_of disk.old) }
+    requires stands { StandsIn layout.now set.now }
+    requires lrecl { set.now.lrecl ≡ 80 }
+    requires space { set.now.space ≡ 10 }
+    ensures { length (content_of disk.new) ≡ length (content_of disk.old) }
+{
+    for place in 0..10 {
+        let image = Rec::of(&[b'0' + place as u8; 80]);
+        write_record(disk, layout, set, place, &image)?;
+    }
+    Ok(())
+}
+
+/// Each of them is read as it was written.
+fn are_read(disk: &mut MemDisk, layout: &Layout, set: &DataSet) -> Result<bool, Failed>
+    requires laid { IsTrue (is_laid_out layout.now) }
+    requires fits { disk_needed layout.now ≤ length (content_of disk.old) }
+    requires stands { StandsIn layout.now set.now }
+    requires lrecl { set.now.lrecl ≡ 80 }
+    requires space { set.now.space ≡ 10 }
+{
+    for place in 0..10 {
+        let found = read_record(disk, layout, set, place)?;
+        if found.bytes()[79] != b'0' + place as u8 {
+            return Ok(false);
+        }
+    }
+    Ok(true)
+}
+
 #[test]
 fn records_written_and_read(rt: HostRuntime) -> Result<(), Fail> {
     let layout = small();
     let set = in_two_extents(&layout);
     let mut disk = MemDisk::new(rt.alloc(), 3072, Vec::new(rt.alloc()), None)?;
-    for place in 0..10 {
-        let image = Rec::of(&[b'0' + place as u8; 80]);
-        write_record(&mut disk, &layout, &set, place, &image)?;
-    }
-    for place in 0..10 {
-        let found = read_record(&mut disk, &layout, &set, place)?;
-        assert!(rt; found.bytes()[79] == b'0' + place as u8);
-    }
+    write_ten(&mut disk, &layout, &set)?;
+    assert!(rt; are_read(&mut disk, &layout, &set)?);
     Ok(())
 }
 

@@ -1,9 +1,10 @@
 //! Operators, the console, and operators as a word names them.
-use ckr_base::{Name8, Volser};
+use ckr_base::{Name8, NoMemory, Volser};
 use ckr_console::{
     Answer, Cautious, Console, Operator, Question, Script, Scripted, Standing, are_scripts,
     read_scripts,
 };
+use std::alloc::Global;
 use std::process::Abort;
 use std::test::Fail;
 
@@ -22,42 +23,67 @@ fn mount(rt: &impl Abort) -> Question {
     }
 }
 
+/// The one gives his answer to each question; the other holds runs, and mounts volumes.
+fn are_asked<S: Operator, C: Operator>(
+    standing: &mut S,
+    cautious: &mut C,
+    rt: &impl Abort,
+) -> bool {
+    standing.answer(&restart(rt)) == Answer::No
+        && standing.answer(&mount(rt)) == Answer::No
+        && cautious.answer(&restart(rt)) == Answer::Hold
+        && cautious.answer(&mount(rt)) == Answer::Yes
+}
+
+/// He gives two answers, and is silent then.
+fn is_asked_four_times(scripted: &mut Scripted, rt: &impl Abort) -> bool {
+    scripted.answer(&mount(rt)) == Answer::Hold
+        && scripted.answer(&restart(rt)) == Answer::Yes
+        && scripted.answer(&restart(rt)) == Answer::Silent
+        && scripted.answer(&mount(rt)) == Answer::Silent
+}
+
 #[test]
 fn each_operator_answers_in_his_way(rt: HostRuntime) -> Result<(), Fail> {
-    let mut standing = Standing(Answer::No);
-    assert_eq!(rt; standing.answer(&restart(&rt)), Answer::No);
-    assert_eq!(rt; standing.answer(&mount(&rt)), Answer::No);
-    let mut cautious = Cautious;
-    assert_eq!(rt; cautious.answer(&restart(&rt)), Answer::Hold);
-    assert_eq!(rt; cautious.answer(&mount(&rt)), Answer::Yes);
+    assert!(rt; are_asked(&mut Standing(Answer::No), &mut Cautious, &rt));
     let mut scripted = Scripted::new([Answer::Hold, Answer::Yes].to_vec(rt.alloc())?);
-    assert_eq!(rt; scripted.answer(&mount(&rt)), Answer::Hold);
-    assert_eq!(rt; scripted.answer(&restart(&rt)), Answer::Yes);
-    assert_eq!(rt; scripted.answer(&restart(&rt)), Answer::Silent);
-    assert_eq!(rt; scripted.answer(&mount(&rt)), Answer::Silent);
+    assert!(rt; is_asked_four_times(&mut scripted, &rt));
     Ok(())
 }
 
 #[test]
 fn an_operator_is_asked_in_his_box(rt: HostRuntime) -> Result<(), Fail> {
     let mut operator: Box<dyn Operator> = Box::new(rt.alloc(), Cautious)?;
-    assert_eq!(rt; operator.answer(&restart(&rt)), Answer::Hold);
+    assert!(rt; operator.answer(&restart(&rt)) == Answer::Hold);
     operator = Box::new(rt.alloc(), Standing(Answer::Yes))?;
-    assert_eq!(rt; operator.answer(&restart(&rt)), Answer::Yes);
+    assert!(rt; operator.answer(&restart(&rt)) == Answer::Yes);
     Ok(())
+}
+
+/// Two operators take office one after the other. The first has an answer left then, which is gone.
+fn are_in_office(
+    console: &mut Console<Scripted>,
+    first: Scripted,
+    second: Scripted,
+    rt: &impl Abort,
+) -> bool {
+    console.shift(first);
+    let refused = console.ask(&restart(rt)) == Answer::No;
+    console.shift(second);
+    refused
+        && console.ask(&restart(rt)) == Answer::Yes
+        && console.ask(&restart(rt)) == Answer::Silent
 }
 
 /// Where nobody is in office, a question stays unanswered. The next operator takes the office of the one before him, whose answers are gone.
 #[test]
 fn the_operator_in_office_is_asked(rt: HostRuntime) -> Result<(), Fail> {
+    let first = Scripted::new([Answer::No, Answer::Hold].to_vec(rt.alloc())?);
+    let second = Scripted::new([Answer::Yes].to_vec(rt.alloc())?);
     let mut console = Console::new(None);
-    assert_eq!(rt; console.ask(&restart(&rt)), Answer::Silent);
-    assert_eq!(rt; console.ask(&mount(&rt)), Answer::Silent);
-    console.shift(Scripted::new([Answer::No, Answer::Hold].to_vec(rt.alloc())?));
-    assert_eq!(rt; console.ask(&restart(&rt)), Answer::No);
-    console.shift(Scripted::new([Answer::Yes].to_vec(rt.alloc())?));
-    assert_eq!(rt; console.ask(&restart(&rt)), Answer::Yes);
-    assert_eq!(rt; console.ask(&restart(&rt)), Answer::Silent);
+    let silent = console.ask(&restart(&rt)) == Answer::Silent
+        && console.ask(&mount(&rt)) == Answer::Silent;
+    assert!(rt; are_in_office(&mut console, first, second, &rt) && silent);
     Ok(())
 }
 
@@ -106,17 +132,26 @@ static NAMED: [(&[u8], &[Named]); 7] = [
     ),
 ];
 
+/// The word names these operators.
+fn are_named(alloc: Global, word: &[u8], named: &[Named]) -> Result<bool, NoMemory> {
+    Ok(match read_scripts(alloc, word)? {
+        Some(scripts) => {
+            let scripts = scripts.as_slice();
+            scripts.len() == named.len()
+                && scripts
+                    .iter()
+                    .zip(named)
+                    .all(|(script, named)| is_named(script, named))
+        }
+        None => false,
+    })
+}
+
 #[test]
 fn words_name_operators(rt: HostRuntime) -> Result<(), Fail> {
     for (word, named) in &NAMED {
         assert!(rt; are_scripts(word));
-        let Some(scripts) = read_scripts(rt.alloc(), word)? else {
-            return Err("the word names operators".into());
-        };
-        assert_eq!(rt; scripts.as_slice().len(), named.len());
-        for (script, named) in scripts.as_slice().iter().zip(*named) {
-            assert!(rt; is_named(script, named));
-        }
+        assert!(rt; are_named(rt.alloc(), word, named)?);
     }
     Ok(())
 }

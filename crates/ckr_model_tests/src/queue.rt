@@ -1,5 +1,5 @@
 //! What no clause says: jobs of one name, as the desk's rows have them.
-ghost use Rattle.std.specs.Prelude.{◌≡◌, Some, IfSome, IfNone};
+ghost use Rattle.std.specs.Prelude.{◌≡◌, [], Some, IfSome, IfNone};
 ghost use Rattle.ckr_queue.specs.declared.entry.QueueState.TheVariants.{Selected as SelectedRun};
 ghost use Rattle.ckr_queue.specs.Queue.{state_of};
 
@@ -7,7 +7,6 @@ use ckr_base::{DsName, NoMemory};
 use ckr_queue::{Queue, Selection};
 use ckr_uses::{Use, Uses};
 use std::alloc::Global;
-use std::process::Abort;
 use std::test::Fail;
 
 /// One use of a name.
@@ -43,60 +42,65 @@ fn hold_and_resume(queue: &mut Queue, number: u32)
     queue.resume(number);
 }
 
+/// Two runs that name one data set come, the second one first.
+fn submit_two(queue: &mut Queue, alloc: Global, exclusive: bool) -> Result<(), NoMemory>
+    requires { queue.old.entries ≡ [] }
+{
+    queue.submit(2, use_of(alloc, b"X.A", exclusive)?)?;
+    queue.submit(1, use_of(alloc, b"X.A", exclusive)?)?;
+    Ok(())
+}
+
+/// The first run is taken, the second waits, and is next once the first has ended.
+#[tactic(auto, using(ckr_queue::proofs::Select::states))]
+fn waits_for_the_end(queue: &mut Queue) -> bool {
+    let Some(first) = take_next(queue) else {
+        return false;
+    };
+    let waits = queue.select() == Selection::Idle;
+    queue.end(first);
+    first == 1 && waits && queue.select() == Selection::Job(2)
+}
+
 /// Two jobs that name one data set OLD: the second waits until the first has ended.
 #[test]
-#[tactic(auto, using(ckr_queue::proofs::Select::states))]
 fn an_exclusive_name_waits_for_the_end(rt: HostRuntime) -> Result<(), Fail> {
     let mut queue = Queue::new(rt.alloc());
-    queue.submit(1, use_of(rt.alloc(), b"X.A", true)?)?;
-    queue.submit(2, use_of(rt.alloc(), b"X.A", true)?)?;
-    let Some(first) = take_next(&mut queue) else {
-        assert!(rt; false);
-        return Ok(());
-    };
-    assert!(rt; first == 1);
-    let next = queue.select();
-    assert!(rt; next == Selection::Idle);
-    queue.end(first);
-    let next = queue.select();
-    assert!(rt; next == Selection::Job(2));
+    submit_two(&mut queue, rt.alloc(), true)?;
+    assert!(rt; waits_for_the_end(&mut queue));
     Ok(())
+}
+
+/// Both runs are taken, the lower number first.
+fn are_taken_at_once(queue: &mut Queue) -> bool {
+    take_next(queue) == Some(1) && take_next(queue) == Some(2) && queue.select() == Selection::Idle
 }
 
 /// The same with SHR: both are selected, the lower number first, whatever the order in which they came.
 #[test]
-#[tactic(auto, using(ckr_queue::proofs::Select::states))]
 fn a_shared_name_waits_for_nothing(rt: HostRuntime) -> Result<(), Fail> {
     let mut queue = Queue::new(rt.alloc());
-    queue.submit(2, use_of(rt.alloc(), b"X.A", false)?)?;
-    queue.submit(1, use_of(rt.alloc(), b"X.A", false)?)?;
-    assert!(rt; take_next(&mut queue) == Some(1));
-    assert!(rt; take_next(&mut queue) == Some(2));
-    let next = queue.select();
-    assert!(rt; next == Selection::Idle);
+    submit_two(&mut queue, rt.alloc(), false)?;
+    assert!(rt; are_taken_at_once(&mut queue));
     Ok(())
 }
 
-/// Of three runs, of which the first two name one data set, the third is held and released.
-#[tactic(auto, using(ckr_queue::proofs::Select::states))]
-fn is_next_once_it_is_released<R: Abort>(rt: &R, queue: &mut Queue) {
-    assert!(rt; take_next(queue) == Some(1));
-    let Some(other) = take_next(queue) else {
-        assert!(rt; false);
-        return;
-    };
-    assert!(rt; other == 3);
-    assert!(rt; !queue.release(3));
-    queue.hold(other);
-    let next = queue.select();
-    assert!(rt; next == Selection::Idle);
-    assert!(rt; queue.release(3));
-    assert!(rt; !queue.release(3));
-    let next = queue.select();
-    assert!(rt; next == Selection::Job(3));
-    assert!(rt; !queue.purge(1));
-    assert!(rt; queue.purge(2));
-    assert!(rt; !queue.purge(2));
+/// The third run is held, and is next once it is released.
+fn is_next_once_released(queue: &mut Queue) -> bool
+    requires { state_of 3 queue.old.entries ≡ Some SelectedRun }
+{
+    let unheld = !queue.release(3);
+    queue.hold(3);
+    let waits = queue.select() == Selection::Idle;
+    unheld && waits && queue.release(3) && !queue.release(3) && queue.select() == Selection::Job(3)
+}
+
+/// Of three runs, of which the first two name one data set, the third is held and released. The second waits, and is purged.
+fn are_served(queue: &mut Queue) -> bool {
+    if take_next(queue) != Some(1) || take_next(queue) != Some(3) {
+        return false;
+    }
+    is_next_once_released(queue) && !queue.purge(1) && queue.purge(2) && !queue.purge(2)
 }
 
 /// A held run keeps its names, and a released one is next, before queued ones that wait.
@@ -106,24 +110,24 @@ fn a_released_run_is_next(rt: HostRuntime) -> Result<(), Fail> {
     queue.submit(1, use_of(rt.alloc(), b"X.A", true)?)?;
     queue.submit(2, use_of(rt.alloc(), b"X.A", true)?)?;
     queue.submit(3, use_of(rt.alloc(), b"X.B", true)?)?;
-    is_next_once_it_is_released(&rt, &mut queue);
+    assert!(rt; are_served(&mut queue));
     Ok(())
+}
+
+/// The first run is held and goes on, and the second waits.
+fn goes_on(queue: &mut Queue) -> bool {
+    let Some(first) = take_next(queue) else {
+        return false;
+    };
+    hold_and_resume(queue, first);
+    !queue.release(first) && queue.select() == Selection::Idle
 }
 
 /// A run that is held goes on with no release. It is on its initiator then, and has kept its names.
 #[test]
-#[tactic(auto, using(ckr_queue::proofs::Select::states))]
 fn a_held_run_goes_on(rt: HostRuntime) -> Result<(), Fail> {
     let mut queue = Queue::new(rt.alloc());
-    queue.submit(1, use_of(rt.alloc(), b"X.A", true)?)?;
-    queue.submit(2, use_of(rt.alloc(), b"X.A", true)?)?;
-    let Some(first) = take_next(&mut queue) else {
-        assert!(rt; false);
-        return Ok(());
-    };
-    hold_and_resume(&mut queue, first);
-    assert!(rt; !queue.release(first));
-    let next = queue.select();
-    assert!(rt; next == Selection::Idle);
+    submit_two(&mut queue, rt.alloc(), true)?;
+    assert!(rt; goes_on(&mut queue));
     Ok(())
 }
