@@ -1,5 +1,5 @@
-//! What becomes of a deck, and the event that keeps its cards; what a turn of the desk comes to, with its reply and its event or none, and that
-//! turns keep the events of the desk.
+//! What becomes of a deck, and the event that keeps its cards; what a turn of the desk comes to, with its reply and its event or none, how a step
+//! comes by its volumes in the machine room, and that turns keep the events of the desk.
 #![tactic(auto)]
 
 mod cards;

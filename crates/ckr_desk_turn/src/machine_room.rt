@@ -1,4 +1,5 @@
-//! The machine room: the console, with the operator in office, and the units, on which he mounts volumes.
+//! The machine room: the console, with the operator in office, and the units, on which he mounts volumes. That a step has all its volumes on units
+//! before it starts is IBM GC28-6704, allocation; what is asked, in which order, and what stays mounted is this project's profile.
 ghost use Rattle.std.specs.Prelude.{◌≡◌, ◌<◌, ◌≤◌, [], ℕ, IfSome, IsTrue, List, None, Some, false, length};
 ghost use Rattle.std.specs.Option.{is_some, option_map};
 ghost use Rattle.ckr_console.specs.Answering.{answer_in_office, asked};
