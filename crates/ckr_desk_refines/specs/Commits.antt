@@ -1,5 +1,7 @@
 -- What an image has of the data sets: what the events have committed, and what a running step has written.
-use Rattle.std.specs.Prelude.{◌≡◌, ℕ, true, List, length, Some}
+use Rattle.std.specs.Prelude.{◌≡◌, ℕ, Bool, false, true, List, length, Some}
+use Rattle.ckr_events.specs.declared.event.Event.{Event}
+use Rattle.ckr_events.specs.declared.event.Event.TheVariants.{Cancelled, Denied, Purged, Released, Submitted}
 use Rattle.ckr_library.specs.declared.sets.Content.TheVariants.{Plain}
 use Rattle.ckr_library.specs.NameMaps.{Name, Named, entry_at}
 use Rattle.ckr_meaning.specs.EffectiveJob.{is_among, names_of}
@@ -29,3 +31,13 @@ abbrev pub HasWithinRun : Layout → Office → ℕ → ℕ → List ℕ → Typ
 HasWithinRun layout office run writes image =
     (row : RunRow) (start : StepStart) → run_of office.tables run ≡ Some row → start_in_office office row ≡ Some start
     → HasWithin layout office.tables.sets start writes image
+
+-- the events that leave the data sets as they are: a deck is submitted, the restart of a run is denied, a step cancels restarts, a held run is
+-- released, a queued one is purged
+abbrev pub keeps_sets : Event → Bool
+keeps_sets (Submitted job cards) = true
+keeps_sets (Denied job rule name) = true
+keeps_sets (Cancelled job) = true
+keeps_sets (Released job) = true
+keeps_sets (Purged job) = true
+keeps_sets _ = false

@@ -1,15 +1,14 @@
 -- The checkpoints in effect of runs, and their entries, as the events give them.
-use Rattle.std.specs.Prelude.{◌≡◌, ◌≢◌, ◌==◌, ℕ, true, List, find, Some}
+use Rattle.std.specs.Prelude.{◌≡◌, ◌==◌, ℕ, true, List, find, Some}
 use Rattle.std.specs.Option.{is_some}
-use Rattle.ckr_library.specs.NameMaps.{Name, Named, entry_at}
+use Rattle.ckr_library.specs.NameMaps.{Name, entry_at}
 use Rattle.ckr_meaning.specs.EffectiveJob.{OwnedStep, is_among, names_of}
 use Rattle.ckr_meaning.specs.JobRun.{start_at}
 use Rattle.ckr_meaning.specs.StepRun.{StepStart, case_at}
 use Rattle.ckr_points.specs.Follows.{is_within, own_step}
 use Rattle.ckr_points.specs.Office.{Leg, Office, is_holder}
 use Rattle.ckr_points.specs.Restart.{kept_at, place_of, step_in}
-use Rattle.ckr_points.specs.Rows.{EffectPoint, EntryPoint, KeptEntry, RunRow, TableSet, TablesModel, run_of}
-use Rattle.ckr_points_invariant.specs.Invariant.{IsHolder}
+use Rattle.ckr_points.specs.Rows.{EffectPoint, EntryPoint, KeptEntry, RunRow, TablesModel, run_of}
 use Rattle.ckr_desk_entries.specs.EntryRefusal.{are_present}
 
 -- ---- what the events give
@@ -49,12 +48,6 @@ AreInEffect office =
     (number : ℕ) (row : RunRow) (effect : EffectPoint) → run_of office.tables number ≡ Some row → row.in_effect ≡ Some effect → IsInEffect office row effect
 
 -- ---- what an event leaves
-
--- each data set in the reach of a holder other than the run is as it was
-abbrev pub LeavesReach : Office → ℕ → Named TableSet → Type 0
-LeavesReach now run sets =
-    (number : ℕ) (row : RunRow) (leg : Leg) (name : Name) → IsHolder now number row leg → number ≢ run → is_among leg.reach name ≡ true
-    → entry_at sets name ≡ entry_at now.tables.sets name
 
 -- each name of the step that a run is in is a data set of the tables
 abbrev pub HasStepNames : TablesModel → ℕ → Type 0

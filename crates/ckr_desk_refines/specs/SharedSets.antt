@@ -12,10 +12,14 @@ use Rattle.ckr_points_invariant.specs.Invariant.{IsHolder}
 use Rattle.ckr_volumes.specs.SamePlaces.{SamePlaces}
 
 -- each data set in the reach of a holder other than the run is as it was
-abbrev pub LeavesOthers : Office → ℕ → Office → Type 0
-LeavesOthers now run later =
+abbrev pub LeavesReach : Office → ℕ → Named TableSet → Type 0
+LeavesReach now run sets =
     (number : ℕ) (row : RunRow) (leg : Leg) (name : Name) → IsHolder now number row leg → number ≢ run → is_among leg.reach name ≡ true
-    → entry_at later.tables.sets name ≡ entry_at now.tables.sets name
+    → entry_at sets name ≡ entry_at now.tables.sets name
+
+-- so it is in an office
+abbrev pub LeavesOthers : Office → ℕ → Office → Type 0
+LeavesOthers now run later = LeavesReach now run later.tables.sets
 
 -- a holder in its step, behind so many writes
 pub record IsInStep (office : Office) (number : ℕ) (row : RunRow) (leg : Leg) (start : StepStart) (writes : ℕ) : Type 0 where

@@ -2,7 +2,8 @@
 ghost use Rattle.std.specs.Prelude.{◌≡◌, ◌≤◌, ℕ, suc, Bool, List, Option, Some, true};
 ghost use Rattle.arrayvec.specs.ArrayVec.{ArrayVec};
 ghost use Rattle.ckr_base.specs.declared.code.Code.{Code};
-ghost use Rattle.ckr_events.specs.declared.event.Event.TheVariants.{Cancelled, Checkpointed, Denied, Ended, Held, Purged, Released, Restarted, Rewritten, Selected, Started, StepEnded, Submitted};
+ghost use Rattle.ckr_events.specs.declared.event.Event.{Event};
+ghost use Rattle.ckr_events.specs.declared.event.Event.TheVariants.{Checkpointed, Ended, Held, Restarted, Rewritten, Selected, Started, StepEnded};
 ghost use Rattle.ckr_events.specs.declared.event.Ending.TheVariants.{Allocation, Coded, Completed};
 ghost use Rattle.ckr_events.specs.declared.event.Made.{Made};
 ghost use Rattle.ckr_jcl.specs.declared.deck.Job.{Job};
@@ -20,24 +21,20 @@ ghost use Rattle.ckr_points_invariant.specs.Invariant.{IsKept};
 ghost use Rattle.ckr_steps.specs.Places.{ShowsWithin};
 ghost use Rattle.ckr_steps.specs.Writes.{Keeps, Shows};
 ghost use Rattle.ckr_volumes.specs.declared.layout.Layout.{Layout};
-ghost use Rattle.ckr_desk_refines.specs.Commits.{HasCommitted, HasWithin, HasWithinRun};
+ghost use Rattle.ckr_desk_refines.specs.Commits.{HasCommitted, HasWithin, HasWithinRun, keeps_sets};
 ghost use Rattle.ckr_desk_refines.specs.StepSets.{HasSets};
 
-/// An image that has what kept events have committed has what they have committed with one more kept event: a deck is submitted,
-/// a run is selected, also one that continues another one, or its restart is denied, a step starts, a step cancels restarts, a run is restarted or
-/// released, a run ends behind its last step or since a DD isn't allocated, or a queued run is purged. None of these commits a record.
+/// An image that has what kept events have committed has what they have committed with one more kept event: one that leaves the data sets as they
+/// are, a run is selected, also one that continues another one, a step starts, a run is restarted, or it ends behind its last step or since a DD
+/// isn't allocated. None of these commits a record.
 pub fn events_leave_what_is_committed()
-    ensures submitted { (layout : Layout) (now : Office) (image : List ℕ) (job : ℕ) (cards : List ℕ) (deck : Option Job) → IsKept layout now → IsKept layout (office_after (Submitted job cards, deck) now) → HasCommitted layout now image → HasCommitted layout (office_after (Submitted job cards, deck) now) image }
+    ensures quiet { (layout : Layout) (now : Office) (image : List ℕ) (event : Event) (deck : Option Job) → keeps_sets event ≡ true → IsKept layout now → IsKept layout (office_after (event, deck) now) → HasCommitted layout now image → HasCommitted layout (office_after (event, deck) now) image }
     ensures selected { (layout : Layout) (now : Office) (image : List ℕ) (job initiator step : ℕ) (id : Option Name) (deck : Option Job) → IsKept layout now → may_come layout now (Selected job initiator 0 step id, deck) ≡ true → IsKept layout (office_after (Selected job initiator 0 step id, deck) now) → HasCommitted layout now image → HasCommitted layout (office_after (Selected job initiator 0 step id, deck) now) image }
     ensures continued { (layout : Layout) (now : Office) (image : List ℕ) (job initiator before step : ℕ) (id : Option Name) (deck : Option Job) → IsKept layout now → may_come layout now (Selected job initiator (suc before) step id, deck) ≡ true → IsKept layout (office_after (Selected job initiator (suc before) step id, deck) now) → HasCommitted layout now image → HasCommitted layout (office_after (Selected job initiator (suc before) step id, deck) now) image }
-    ensures denied { (layout : Layout) (now : Office) (image : List ℕ) (job rule : ℕ) (name : Option Name) (deck : Option Job) → IsKept layout now → IsKept layout (office_after (Denied job rule name, deck) now) → HasCommitted layout now image → HasCommitted layout (office_after (Denied job rule name, deck) now) image }
     ensures started { (layout : Layout) (now : Office) (image : List ℕ) (job step : ℕ) (items : ArrayVec Made) (deck : Option Job) → IsKept layout now → may_come layout now (Started job step items, deck) ≡ true → carries layout now (Started job step items) deck ≡ true → IsKept layout (office_after (Started job step items, deck) now) → HasCommitted layout now image → HasCommitted layout (office_after (Started job step items, deck) now) image }
-    ensures cancelled { (layout : Layout) (now : Office) (image : List ℕ) (job : ℕ) (deck : Option Job) → IsKept layout now → IsKept layout (office_after (Cancelled job, deck) now) → HasCommitted layout now image → HasCommitted layout (office_after (Cancelled job, deck) now) image }
     ensures restarted { (layout : Layout) (now : Office) (image : List ℕ) (job initiator : ℕ) (code : Code) (checkpoint : Bool) (deck : Option Job) → IsKept layout now → IsKept layout (office_after (Restarted job initiator code checkpoint, deck) now) → HasCommitted layout now image → HasCommitted layout (office_after (Restarted job initiator code checkpoint, deck) now) image }
-    ensures released { (layout : Layout) (now : Office) (image : List ℕ) (job : ℕ) (deck : Option Job) → IsKept layout now → IsKept layout (office_after (Released job, deck) now) → HasCommitted layout now image → HasCommitted layout (office_after (Released job, deck) now) image }
     ensures completed { (layout : Layout) (now : Office) (image : List ℕ) (job : ℕ) (deck : Option Job) → IsKept layout now → IsKept layout (office_after (Ended job Completed, deck) now) → HasCommitted layout now image → HasCommitted layout (office_after (Ended job Completed, deck) now) image }
     ensures refused { (layout : Layout) (now : Office) (image : List ℕ) (job dd cause first second : ℕ) (deck : Option Job) → IsKept layout now → IsKept layout (office_after (Ended job (Allocation dd cause first second), deck) now) → HasCommitted layout now image → HasCommitted layout (office_after (Ended job (Allocation dd cause first second), deck) now) image }
-    ensures purged { (layout : Layout) (now : Office) (image : List ℕ) (job : ℕ) (deck : Option Job) → IsKept layout now → IsKept layout (office_after (Purged job, deck) now) → HasCommitted layout now image → HasCommitted layout (office_after (Purged job, deck) now) image }
 {}
 
 /// An image that has what kept events have committed, and what a running step has written, has what is committed with the event

@@ -34,10 +34,10 @@ ghost use Rattle.ckr_desk_turn.specs.Jobs.{effect_entry};
 ghost use Rattle.ckr_desk_turn.specs.Invariant.{HasRuns};
 ghost use Rattle.ckr_desk_turn.specs.DeckEvents.{AreDeckEvents};
 ghost use Rattle.ckr_desk_refines.specs.StepSets.{HasSets};
-ghost use Rattle.ckr_desk_refines.specs.SharedSets.{LeavesOthers};
+ghost use Rattle.ckr_desk_refines.specs.SharedSets.{LeavesOthers, LeavesReach};
 ghost use Rattle.ckr_desk_refines.specs.Entries.{AreOwned, AreWithin, HasCheckDd, HasCheckSet, HasEntries, HasNewEntry, IsReadBack, IsReadInEffect, HasWritten, OnlyCheckSetsKeep, SameKept, entry_taken, jobs_of, takes_checkpoint};
 ghost use Rattle.ckr_desk_entries.specs.EntryRefusal.{entry_refusal};
-ghost use Rattle.ckr_desk_refines.specs.InEffect.{AreInEffect, HasStepNames, LeavesReach};
+ghost use Rattle.ckr_desk_refines.specs.InEffect.{AreInEffect, HasStepNames};
 ghost use Rattle.ckr_points.specs.Payload.{start_in_office};
 
 /// The tables of no events keep no entry, and no run has a checkpoint in effect.

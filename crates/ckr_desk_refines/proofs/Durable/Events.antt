@@ -1,9 +1,11 @@
 -- What an image has of the data sets goes on where an event commits no records, and where it commits those that a step has written.
 use Rattle.std.proofs.Common.{◌≡◌, ℕ, Bool, true, false, List, refl, ap, sym, ◌∙◌, Option, Some, None}
 use Rattle.std.specs.Option.{option_map_or}
+use Rattle.std.proofs.lemmas.Bool.{false≢true}
 use Rattle.arrayvec.specs.ArrayVec.{ArrayVec}
 use Rattle.ckr_base.specs.declared.code.Code.{Code}
-use Rattle.ckr_events.specs.declared.event.Event.TheVariants.{Submitted, Cancelled, Denied, StepEnded, Held, Released, Ended, Purged}
+use Rattle.ckr_events.specs.declared.event.Event.{Event}
+use Rattle.ckr_events.specs.declared.event.Event.TheVariants.{Submitted, Cancelled, Denied, Selected, StepEnded, Held, Released, Ended, Purged}
 use Rattle.ckr_events.specs.declared.event.Ending.{Ending}
 use Rattle.ckr_events.specs.declared.event.Ending.TheVariants.{Completed, Coded, Allocation}
 use Rattle.ckr_jcl.specs.declared.deck.Job.{Job}
@@ -24,7 +26,7 @@ use Rattle.ckr_points_invariant.specs.RunningSteps.{IsRunning, its_start}
 use Rattle.ckr_points_invariant.proofs.RunEnd.Event.{committed_office}
 use Rattle.ckr_points_invariant.proofs.Steps.Walks.{start_at-of}
 use Rattle.ckr_volumes.specs.declared.layout.Layout.{Layout}
-use Rattle.ckr_desk_refines.specs.Commits.{HasCommitted, HasWithinRun}
+use Rattle.ckr_desk_refines.specs.Commits.{HasCommitted, HasWithinRun, keeps_sets}
 use Rattle.ckr_desk_refines.specs.Origins.Stems.{stays}
 use Rattle.ckr_desk_refines.proofs.Durable.Office.{behind_end, behind_hold, by-coded, by-held, by-step-ended}
 use Rattle.ckr_desk_refines.proofs.Durable.Commits.{committed-has, committed-kept}
@@ -47,33 +49,20 @@ pub by-run-sets : (change : RunRow → TablesModel) (o : Option RunRow) (tables 
 by-run-sets change None tables same = refl
 by-run-sets change (Some row) tables same = same row
 
-pub submitted-stays : (layout : Layout) (office : Office) (image : List ℕ) (job : ℕ) (cards : List ℕ) (deck : Option Job) → IsKept layout office → IsKept layout (office_after (Submitted job cards, deck) office) → HasCommitted layout office image → HasCommitted layout (office_after (Submitted job cards, deck) office) image
-submitted-stays layout office image job cards deck kept next had =
-    same-sets layout office (office_after (Submitted job cards, deck) office) image kept next (λ run led. refl) had (by deck)
-  where
-    by : (deck : Option Job) → (after_event (Submitted job cards) deck office.tables).sets ≡ office.tables.sets
-    by None = refl
-    by (Some its) = refl
+pub sets-stay : (event : Event) (deck : Option Job) (tables : TablesModel) → keeps_sets event ≡ true → (after_event event deck tables).sets ≡ tables.sets
+sets-stay (Submitted job cards) None tables keeps = refl
+sets-stay (Submitted job cards) (Some its) tables keeps = refl
+sets-stay (Denied job rule name) deck tables keeps = by-run-sets _ (run_of tables job) tables (λ row. refl)
+sets-stay (Cancelled job) deck tables keeps = by-run-sets _ (run_of tables job) tables (λ row. refl)
+sets-stay (Released job) deck tables keeps = by-run-sets _ (run_of tables job) tables (λ row. refl)
+sets-stay (Purged job) deck tables keeps = by-run-sets _ (run_of tables job) tables (λ row. refl)
+sets-stay event deck tables keeps = absurd (false≢true keeps)
 
-pub purged-stays : (layout : Layout) (office : Office) (image : List ℕ) (job : ℕ) (deck : Option Job) → IsKept layout office → IsKept layout (office_after (Purged job, deck) office) → HasCommitted layout office image → HasCommitted layout (office_after (Purged job, deck) office) image
-purged-stays layout office image job deck kept next had =
-    same-sets layout office (office_after (Purged job, deck) office) image kept next (λ run led. refl) had
-    (by-run-sets _ (run_of office.tables job) office.tables (λ row. refl))
-
-pub denied-stays : (layout : Layout) (office : Office) (image : List ℕ) (job rule : ℕ) (name : Option Name) (deck : Option Job) → IsKept layout office → IsKept layout (office_after (Denied job rule name, deck) office) → HasCommitted layout office image → HasCommitted layout (office_after (Denied job rule name, deck) office) image
-denied-stays layout office image job rule name deck kept next had =
-    same-sets layout office (office_after (Denied job rule name, deck) office) image kept next (λ run led. refl) had
-    (by-run-sets _ (run_of office.tables job) office.tables (λ row. refl))
-
-pub cancelled-stays : (layout : Layout) (office : Office) (image : List ℕ) (job : ℕ) (deck : Option Job) → IsKept layout office → IsKept layout (office_after (Cancelled job, deck) office) → HasCommitted layout office image → HasCommitted layout (office_after (Cancelled job, deck) office) image
-cancelled-stays layout office image job deck kept next had =
-    same-sets layout office (office_after (Cancelled job, deck) office) image kept next (λ run led. refl) had
-    (by-run-sets _ (run_of office.tables job) office.tables (λ row. refl))
-
-pub released-stays : (layout : Layout) (office : Office) (image : List ℕ) (job : ℕ) (deck : Option Job) → IsKept layout office → IsKept layout (office_after (Released job, deck) office) → HasCommitted layout office image → HasCommitted layout (office_after (Released job, deck) office) image
-released-stays layout office image job deck kept next had =
-    same-sets layout office (office_after (Released job, deck) office) image kept next (λ run led. refl) had
-    (by-run-sets _ (run_of office.tables job) office.tables (λ row. refl))
+pub quiet-stays : (layout : Layout) (office : Office) (image : List ℕ) (event : Event) (deck : Option Job) → keeps_sets event ≡ true → IsKept layout office → IsKept layout (office_after (event, deck) office) → HasCommitted layout office image → HasCommitted layout (office_after (event, deck) office) image
+quiet-stays layout office image (Selected job initiator earlier step id) deck keeps kept next had = absurd (false≢true keeps)
+quiet-stays layout office image (Ended job ending) deck keeps kept next had = absurd (false≢true keeps)
+quiet-stays layout office image event deck keeps kept next had =
+    same-sets layout office (office_after (event, deck) office) image kept next (λ run led. refl) had (sets-stay event deck office.tables keeps)
 
 -- ---- a step ends
 

@@ -1,12 +1,15 @@
 -- The events of a run leave the data sets that other holders reach.
-use Rattle.std.proofs.Common.{◌≡◌, ◌≢◌, ℕ, true, false, cond, List, refl, ap, sym, ◌∙◌, subst, Option, Some, None}
+use Rattle.std.proofs.Common.{◌≡◌, ◌≢◌, ℕ, true, false, cond, List, refl, ap, sym, ◌∙◌, subst, Option, Some}
 use Rattle.std.specs.Option.{option_map}
+use Rattle.std.proofs.lemmas.Bool.{false≢true}
 use Rattle.arrayvec.specs.ArrayVec.{ArrayVec}
 use Rattle.ckr_base.specs.declared.code.Code.{Code}
 use Rattle.ckr_base.specs.declared.programs.Output.TheVariants.{InPlace}
 use Rattle.ckr_base.proofs.Bools.{and-first}
 use Rattle.ckr_points_library.specs.Commit.{output_names}
-use Rattle.ckr_events.specs.declared.event.Event.TheVariants.{Cancelled, Denied, Ended, Held, Purged, Released, Rewritten, Selected, Started, StepEnded, Submitted}
+use Rattle.ckr_events.specs.Jobs.{job_of}
+use Rattle.ckr_events.specs.declared.event.Event.{Event}
+use Rattle.ckr_events.specs.declared.event.Event.TheVariants.{Ended, Held, Rewritten, Selected, Started, StepEnded}
 use Rattle.ckr_events.specs.declared.event.Ending.{Ending}
 use Rattle.ckr_events.specs.declared.event.Ending.TheVariants.{Allocation, Coded, Completed}
 use Rattle.ckr_events.specs.declared.event.Made.{Made}
@@ -20,8 +23,8 @@ use Rattle.ckr_points.specs.Follows.{ended_follows, is_in_state}
 use Rattle.ckr_points.specs.declared.run.RunState.TheVariants.{On}
 use Rattle.ckr_points.specs.Payload.{carries, writes_in}
 use Rattle.ckr_points.specs.Office.{Leg, Office, office_after}
-use Rattle.ckr_points.specs.Restart.{after_abnormal, after_ended, after_event, place_of}
-use Rattle.ckr_points.specs.Rows.{RunRow, TableSet, run_of}
+use Rattle.ckr_points.specs.Restart.{after_abnormal, after_ended, place_of}
+use Rattle.ckr_points.specs.Rows.{RunRow, TableSet}
 use Rattle.ckr_points.specs.Soundness.{may_come}
 use Rattle.ckr_points_invariant.specs.Invariant.{IsAgreed, IsHolder, IsKept, step_now}
 use Rattle.ckr_points_invariant.specs.RunningSteps.{IsRunning, its_start}
@@ -34,10 +37,11 @@ use Rattle.ckr_points_invariant.proofs.Rewrite.Invariant.{updated-name}
 use Rattle.ckr_points_invariant.proofs.Steps.Events.{led-by, on-holds}
 use Rattle.ckr_points_invariant.proofs.Start.Event.{by-start}
 use Rattle.ckr_volumes.specs.declared.layout.Layout.{Layout}
+use Rattle.ckr_desk_refines.specs.Commits.{keeps_sets}
 use Rattle.ckr_desk_refines.specs.SharedSets.{LeavesOthers}
 use Rattle.ckr_desk_refines.proofs.Durable.OtherSets.{IsLeft, abnormal-left, committed-left, disposed-left, ended-left, left-of, running-leaves, started-left, within-left}
 use Rattle.ckr_desk_refines.proofs.Durable.Office.{RewritesNow, behind_end, behind_hold, by-coded, by-held, by-rewritten, by-step-ended, ended-office}
-use Rattle.ckr_desk_refines.proofs.Durable.Events.{by-run-sets}
+use Rattle.ckr_desk_refines.proofs.Durable.Events.{sets-stay}
 use Rattle.ckr_points_invariant.proofs.EventRows.{IsCommitting}
 
 -- the names of a running step are among those that its holder reaches
@@ -50,28 +54,10 @@ others-of-step layout now later run number row leg owned step writes name kept l
 same-tables : (now later : Office) (run : ℕ) → later.tables.sets ≡ now.tables.sets → LeavesOthers now run later
 same-tables now later run same number row leg name holder apart among = ap (λ sets. entry_at sets name) same
 
-pub others-submitted : (now : Office) (job : ℕ) (cards : List ℕ) (deck : Option Job) → LeavesOthers now job (office_after (Submitted job cards, deck) now)
-others-submitted now job cards deck = same-tables now (office_after (Submitted job cards, deck) now) job (by deck)
-  where
-    by : (deck : Option Job) → (after_event (Submitted job cards) deck now.tables).sets ≡ now.tables.sets
-    by None = refl
-    by (Some its) = refl
-
-pub others-purged : (now : Office) (job : ℕ) (deck : Option Job) → LeavesOthers now job (office_after (Purged job, deck) now)
-others-purged now job deck =
-    same-tables now (office_after (Purged job, deck) now) job (by-run-sets _ (run_of now.tables job) now.tables (λ row. refl))
-
-pub others-denied : (now : Office) (job rule : ℕ) (name : Option Name) (deck : Option Job) → LeavesOthers now job (office_after (Denied job rule name, deck) now)
-others-denied now job rule name deck =
-    same-tables now (office_after (Denied job rule name, deck) now) job (by-run-sets _ (run_of now.tables job) now.tables (λ row. refl))
-
-pub others-cancelled : (now : Office) (job : ℕ) (deck : Option Job) → LeavesOthers now job (office_after (Cancelled job, deck) now)
-others-cancelled now job deck =
-    same-tables now (office_after (Cancelled job, deck) now) job (by-run-sets _ (run_of now.tables job) now.tables (λ row. refl))
-
-pub others-released : (now : Office) (job : ℕ) (deck : Option Job) → LeavesOthers now job (office_after (Released job, deck) now)
-others-released now job deck =
-    same-tables now (office_after (Released job, deck) now) job (by-run-sets _ (run_of now.tables job) now.tables (λ row. refl))
+pub others-quiet : (now : Office) (event : Event) (deck : Option Job) → keeps_sets event ≡ true → LeavesOthers now (job_of event) (office_after (event, deck) now)
+others-quiet now (Selected job initiator earlier step id) deck keeps = absurd (false≢true keeps)
+others-quiet now (Ended job ending) deck keeps = absurd (false≢true keeps)
+others-quiet now event deck keeps = same-tables now (office_after (event, deck) now) (job_of event) (sets-stay event deck now.tables keeps)
 
 pub others-selected : (layout : Layout) (now : Office) (job initiator step : ℕ) (id : Option Name) (deck : Option Job) → IsKept layout now → may_come layout now (Selected job initiator 0 step id, deck) ≡ true → LeavesOthers now job (office_after (Selected job initiator 0 step id, deck) now)
 others-selected layout now job initiator step id deck kept may =

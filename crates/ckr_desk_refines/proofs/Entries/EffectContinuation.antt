@@ -33,7 +33,8 @@ use Rattle.ckr_points_invariant.proofs.Select.Holders.{leg_here}
 use Rattle.ckr_points_invariant.proofs.Steps.Walks.{start_at-of}
 use Rattle.ckr_volumes.specs.declared.layout.Layout.{Layout}
 use Rattle.ckr_desk_refines.specs.Entries.{AreOwned, HasOwner}
-use Rattle.ckr_desk_refines.specs.InEffect.{AreInEffect, HasSameCase, IsInEffect, LeavesReach}
+use Rattle.ckr_desk_refines.specs.InEffect.{AreInEffect, HasSameCase, IsInEffect}
+use Rattle.ckr_desk_refines.specs.SharedSets.{LeavesReach}
 use Rattle.ckr_desk_refines.proofs.Durable.Continuation as continuation
 use Rattle.ckr_desk_refines.proofs.Entries.Effects as effects
 use Rattle.ckr_desk_refines.proofs.Entries.KeptEntries.{kept_at-put_back}

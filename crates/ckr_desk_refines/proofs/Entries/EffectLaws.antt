@@ -16,7 +16,8 @@ use Rattle.ckr_points_invariant.specs.EarlierRuns.{continues}
 use Rattle.ckr_points_invariant.proofs.WaitingRuns.{follows-of}
 use Rattle.ckr_volumes.specs.declared.layout.Layout.{Layout}
 use Rattle.ckr_desk_refines.specs.Entries.{AreOwned, AreWithin, takes_checkpoint}
-use Rattle.ckr_desk_refines.specs.InEffect.{AreInEffect, HasStepNames, LeavesReach}
+use Rattle.ckr_desk_refines.specs.InEffect.{AreInEffect, HasStepNames}
+use Rattle.ckr_desk_refines.specs.SharedSets.{LeavesReach}
 use Rattle.ckr_desk_refines.proofs.Entries.EffectContinuation.{effects-continued}
 use Rattle.ckr_desk_refines.proofs.Entries.EffectEvents as events
 use Rattle.ckr_desk_refines.proofs.Entries.Effects.{effects-led}

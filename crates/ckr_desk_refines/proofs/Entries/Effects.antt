@@ -22,7 +22,8 @@ use Rattle.ckr_points_invariant.proofs.Steps.Commits.{in_reach}
 use Rattle.ckr_points_invariant.proofs.Steps.Events.{led-by}
 use Rattle.ckr_volumes.specs.declared.layout.Layout.{Layout}
 use Rattle.ckr_desk_refines.specs.Entries.{AreWithin}
-use Rattle.ckr_desk_refines.specs.InEffect.{AreInEffect, IsInEffect, LeavesReach}
+use Rattle.ckr_desk_refines.specs.InEffect.{AreInEffect, IsInEffect}
+use Rattle.ckr_desk_refines.specs.SharedSets.{LeavesReach}
 use Rattle.ckr_desk_refines.proofs.Entries.KeptEntries.{kept_at-committed, kept_in}
 use Rattle.ckr_desk_refines.proofs.Entries.Legs.{KeepLegs}
 use Rattle.ckr_desk_refines.proofs.Entries.Refusal.{kept-table}

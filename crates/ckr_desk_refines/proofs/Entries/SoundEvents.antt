@@ -1,44 +1,28 @@
 -- What sound events give of entries: they end within their data sets and tell the owners of their steps, and each checkpoint in effect is one of the
 -- step that its run is in.
-use Rattle.std.proofs.Common.{◌≡◌, zero, suc, ℕ, Bool, true, false, ◌&&◌, ◌||◌, List, [], ◌∷◌, ◌++◌, refl, ap, sym, ◌∙◌, subst, Option, None}
-use Rattle.std.specs.Option.{option_map_or}
+use Rattle.std.proofs.Common.{◌≡◌, zero, suc, ℕ, List, [], ◌∷◌, ◌++◌, refl, sym, subst, Option, None}
 use Rattle.std.proofs.lemmas.List.{append-nil}
-use Rattle.arrayvec.specs.ArrayVec.{ArrayVec}
-use Rattle.ckr_base.specs.declared.code.Code.{Code}
-use Rattle.ckr_base.proofs.Bools.{and-first, and-second}
 use Rattle.ckr_base.proofs.Options.{some-not-none}
 use Rattle.ckr_events.specs.declared.event.Event.{Event}
-use Rattle.ckr_events.specs.declared.event.Event.TheVariants.{Checkpointed, Ended, Held, Restarted, Rewritten, Selected, Started, StepEnded, Submitted}
+use Rattle.ckr_events.specs.declared.event.Event.TheVariants.{Checkpointed, Ended, Held, Restarted, Rewritten, Selected, Started, StepEnded}
 use Rattle.ckr_events.specs.declared.event.Ending.TheVariants.{Allocation, Coded, Completed}
 use Rattle.ckr_events.specs.Jobs.{job_of}
 use Rattle.ckr_jcl.specs.declared.deck.Job.{Job}
-use Rattle.ckr_library.specs.NameMaps.{entry_at}
-use Rattle.ckr_meaning.specs.EffectiveJob.{OwnedStep}
-use Rattle.ckr_points.specs.declared.run.RunState.TheVariants.{Released as ReleasedRun}
 use Rattle.ckr_points.specs.Events.{AreSound, AreSoundFrom, IsNext}
-use Rattle.ckr_points.specs.Follows.{is_in_state, is_running, lengths_follow}
 use Rattle.ckr_points.specs.Office.{Office, no_office, office, office_after, office_from}
-use Rattle.ckr_points.specs.Payload.{writes_in}
-use Rattle.ckr_points.specs.Restart.{Decked, after_event, by_step, place_of}
-use Rattle.ckr_points.specs.Rows.{RunRow, TablesModel, run_of}
-use Rattle.ckr_points.specs.Soundness.{may_come}
-use Rattle.ckr_points.specs.Tables.{after_held}
-use Rattle.ckr_points_invariant.specs.Invariant.{IsKept, step_now}
+use Rattle.ckr_points.specs.Restart.{Decked, after_event}
+use Rattle.ckr_points.specs.Rows.{TablesModel}
+use Rattle.ckr_points_invariant.specs.Invariant.{IsKept}
 use Rattle.ckr_points_invariant.specs.KeptEvents.{AreKept}
-use Rattle.ckr_points_invariant.proofs.Readiness.Office.{entries-restorable, steps-restorable}
 use Rattle.ckr_points_invariant.proofs.KeptEvents.{next-kept, none-kept}
-use Rattle.ckr_points_invariant.proofs.Restart.Event.{entry-leaves, start-leaves}
-use Rattle.ckr_points_invariant.proofs.Start.Event.{running-so}
-use Rattle.ckr_points_invariant.proofs.Steps.Events.{led-by, running-holds, running-within, step-by}
-use Rattle.ckr_points_invariant.proofs.WaitingRuns.{follows-of, tested-run}
 use Rattle.ckr_volumes.specs.declared.layout.Layout.{Layout}
 use Rattle.ckr_desk_refines.specs.Entries.{AreOwned, AreWithin, HasEntries}
 use Rattle.ckr_desk_entries.specs.EntryRefusal.{entry_refusal}
-use Rattle.ckr_desk_refines.specs.InEffect.{AreInEffect, LeavesReach}
+use Rattle.ckr_desk_refines.specs.InEffect.{AreInEffect}
+use Rattle.ckr_desk_refines.specs.SharedSets.{LeavesReach}
 use Rattle.ckr_desk_refines.proofs.Durable.Continuation.{others-continued}
-use Rattle.ckr_desk_refines.proofs.Durable.Events.{by-run-sets}
-use Rattle.ckr_desk_refines.proofs.Durable.Fellows.{others-coded, others-completed, others-refused, others-rewritten, others-selected, others-started, others-step-ended, others-submitted}
-use Rattle.ckr_desk_refines.proofs.Durable.OtherSets.{committed-left, left-of}
+use Rattle.ckr_desk_refines.proofs.Durable.Restart.{others-restarted}
+use Rattle.ckr_desk_refines.proofs.Durable.Fellows.{others-coded, others-completed, others-held, others-quiet, others-refused, others-rewritten, others-selected, others-started, others-step-ended}
 use Rattle.ckr_desk_refines.proofs.Entries.Checkpoint.{within-taken}
 use Rattle.ckr_desk_refines.proofs.Entries.EffectLaws.{effects-next}
 use Rattle.ckr_desk_refines.proofs.Entries.Effects.{no-effects}
@@ -54,30 +38,7 @@ module _ (layout : Layout) (now : Office) (are : AreKept layout now) where
   abbrev kept : IsKept layout now
   kept = are.kept
 
-  -- a row that changes alone
-  same-reach : (job : ℕ) (change : RunRow → TablesModel) → ((row : RunRow) → (change row).sets ≡ now.tables.sets) → LeavesReach now job (option_map_or change (run_of now.tables job) now.tables).sets
-  same-reach job change same number row leg name holder apart among = ap (λ sets. entry_at sets name) (by-run-sets change (run_of now.tables job) now.tables same)
-
-  reach-held : (job writes : ℕ) (code : Code) (lengths : ArrayVec ℕ) (deck : Option Job) → may_come layout now (Held job code writes lengths, deck) ≡ true → LeavesReach now job (after_event (Held job code writes lengths) deck now.tables).sets
-  reach-held job writes code lengths deck may number its fellow name there apart among =
-      tested-run now.tables job (λ row. (is_running row || is_in_state ReleasedRun row) && lengths_follow now.tables row lengths.items) (follows-of layout now (Held job code writes lengths) deck may)
-      (λ row e passes.
-      let runs : (is_running row || is_in_state ReleasedRun row) ≡ true = and-first (is_running row || is_in_state ReleasedRun row) (lengths_follow now.tables row lengths.items) passes in
-      led-by layout now job row kept.events e (running-holds row runs)
-      (λ leg holder.
-      step-by now.tables row lengths.items (and-second (is_running row || is_in_state ReleasedRun row) (lengths_follow now.tables row lengths.items) passes)
-      (λ owned found lengths_are.
-      let running = running-so layout now job row leg owned holder (running-within now.tables row leg (kept.events.places job row leg holder) runs) found in
-      ap (λ (o : Option RunRow). entry_at (option_map_or (λ row. by_step (λ owned step. after_held row owned step code writes lengths.items now.tables) row now.tables) o now.tables).sets name) e
-      ∙ ap (λ (o : Option OwnedStep). entry_at (option_map_or (λ owned. after_held row owned (step_now row) code writes lengths.items now.tables) o now.tables).sets name) found
-      ∙ committed-left layout now job row leg owned (step_now row) (writes_in (place_of row)) name kept.events running (left-of layout now number job its row fellow leg name kept.events there holder apart among) lengths.items)))
-
-  reach-restarted : (job initiator : ℕ) (code : Code) (checkpoint : Bool) (deck : Option Job) → IsNext layout now (Restarted job initiator code checkpoint, deck) → LeavesReach now job (after_event (Restarted job initiator code checkpoint) deck now.tables).sets
-  reach-restarted job initiator code false deck next = (start-leaves layout now job initiator code deck kept are.pointed (steps-restorable now are.ready) next.may next.carried).shared
-  reach-restarted job initiator code true deck next = (entry-leaves layout now job initiator code deck kept are.pointed (entries-restorable now are.ready) next.may next.carried).shared
-
   pub reach-next : (event : Event) (deck : Option Job) → IsNext layout now (event, deck) → LeavesReach now (job_of event) (after_event event deck now.tables).sets
-  reach-next (Submitted job cards) deck next = others-submitted now job cards deck
   reach-next (Selected job initiator zero step id) deck next = others-selected layout now job initiator step id deck kept next.may
   reach-next (Selected job initiator (suc before) step id) deck next =
       others-continued layout now kept job initiator before step id deck next.may (next-kept layout now are (Selected job initiator (suc before) step id) deck next).kept
@@ -85,12 +46,12 @@ module _ (layout : Layout) (now : Office) (are : AreKept layout now) where
   reach-next (Rewritten job taken writes lengths place image) deck next = others-rewritten layout now job taken writes place lengths image deck kept next.may
   reach-next (Checkpointed job id taken writes lengths place bytes) deck next = others-checkpointed layout now kept.events job taken writes place bytes id lengths deck next.may
   reach-next (StepEnded job step rc writes lengths) deck next = others-step-ended layout now job step rc writes lengths deck kept next.may next.carried
-  reach-next (Restarted job initiator code checkpoint) deck next = reach-restarted job initiator code checkpoint deck next
-  reach-next (Held job code writes lengths) deck next = reach-held job writes code lengths deck next.may
+  reach-next (Restarted job initiator code checkpoint) deck next = others-restarted layout now job initiator code checkpoint deck kept are.pointed are.ready next.may next.carried
+  reach-next (Held job code writes lengths) deck next = others-held layout now job writes code lengths deck kept next.may next.carried
   reach-next (Ended job Completed) deck next = others-completed layout now job deck kept next.may
   reach-next (Ended job (Coded code rule writes lengths)) deck next = others-coded layout now job rule writes code lengths deck kept next.may next.carried
   reach-next (Ended job (Allocation dd cause first second)) deck next = others-refused layout now job dd cause first second deck kept next.may
-  reach-next event deck next = same-reach (job_of event) _ (λ row. refl)
+  reach-next event deck next = others-quiet now event deck refl
 
   -- ---- one more event
 

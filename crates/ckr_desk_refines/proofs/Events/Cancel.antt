@@ -11,7 +11,7 @@ use Rattle.ckr_desk_turn.specs.Invariant.{IsDesk}
 use Rattle.ckr_desk_turn.specs.Jobs.{TurnStep, running_in}
 use Rattle.ckr_desk_turn.proofs.RunningSteps.{FoundStep, found-step}
 use Rattle.ckr_desk_refines.proofs.Durable.Events.{by-run-sets}
-use Rattle.ckr_desk_refines.proofs.Durable.Fellows.{others-cancelled}
+use Rattle.ckr_desk_refines.proofs.Durable.Fellows.{others-quiet}
 use Rattle.ckr_library.specs.NameMaps.{entry_at}
 use Rattle.ckr_points.specs.Office.{Office, office_after}
 use Rattle.ckr_points.specs.Rows.{RunRow, run_of}
@@ -76,7 +76,7 @@ module _ (desk : DeskModel) (is : IsDesk desk) (before after : List ℕ) (same :
     all-stand = (
       own-stands,
       others-stand desk.layout desk.office later before after job
-          (λ other one going apart stands. step-stands desk is later job leaves (others-cancelled desk.office job None) before after same other one going apart stands) seen desk.running differs is.going all,
+          (λ other one going apart stands. step-stands desk is later job leaves (others-quiet desk.office (Cancelled job) None refl) before after same other one going apart stands) seen desk.running differs is.going all,
     )
 
     all-behind : AllStand desk.layout later after (served_in job seen) (with_change job cancel_done desk.running)

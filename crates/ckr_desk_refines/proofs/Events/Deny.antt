@@ -16,7 +16,7 @@ use Rattle.ckr_desk_turn.specs.NextEvents.{Comes}
 use Rattle.ckr_desk_refines.specs.Commits.{HasCommitted}
 use Rattle.ckr_desk_refines.specs.Moves.{HasSameRecords, HaveMoved}
 use Rattle.ckr_desk_refines.specs.Standing.{StandsForDesk}
-use Rattle.ckr_desk_refines.proofs.Durable.Events.{denied-stays}
+use Rattle.ckr_desk_refines.proofs.Durable.Events.{quiet-stays}
 use Rattle.ckr_desk_refines.proofs.Events.Commits.{committed-moves}
 use Rattle.ckr_desk_refines.proofs.Events.Desk.{entered-stands, out-stands}
 use Rattle.ckr_desk_refines.proofs.Events.OtherRows.{EntersOut, denied-enters}
@@ -25,7 +25,7 @@ pub denied-committed : (layout : Layout) (jobs : JobsView) (before : List ℕ) (
     → (image : List ℕ) → HasSameRecords desk.layout before image → HasCommitted desk.layout (behind (Denied run rule name) None desk).office image
 denied-committed layout jobs before desk run rule name stands later image same =
     committed-moves desk.layout (behind (Denied run rule name) None desk).office before image later.kept same
-    (denied-stays desk.layout desk.office before run rule name None stands.is_desk.kept later.kept stands.committed)
+    (quiet-stays desk.layout desk.office before (Denied run rule name) None refl stands.is_desk.kept later.kept stands.committed)
 
 pub denied-stands : (layout : Layout) (old new : JobsView) (before after : List ℕ) (desk : DeskModel) (run rule : ℕ) (name : Option Name) → StandsForDesk layout old before desk → Comes desk (Denied run rule name) → IsDesk (behind (Denied run rule name) None desk)
     → HaveMoved (Denied run rule name) None old new → HasSameRecords desk.layout before after → StandsForDesk layout new after (behind (Denied run rule name) None desk)

@@ -6,7 +6,7 @@ use Rattle.ckr_base.specs.declared.code.Code.{Code}
 use Rattle.ckr_events.specs.declared.event.Ending.{Ending}
 use Rattle.ckr_events.specs.declared.event.Ending.TheVariants.{Allocation, Coded, Completed}
 use Rattle.ckr_events.specs.declared.event.Event.{Event}
-use Rattle.ckr_events.specs.declared.event.Event.TheVariants.{Cancelled, Ended, Held, Selected, Started, StepEnded}
+use Rattle.ckr_events.specs.declared.event.Event.TheVariants.{Cancelled, Denied, Ended, Held, Selected, Started, StepEnded}
 use Rattle.ckr_events.specs.declared.event.Made.{Made}
 use Rattle.ckr_desk_memory.specs.View.{JobsView, begun}
 use Rattle.ckr_desk_memory.specs.Start.{HasNew}
@@ -16,8 +16,8 @@ use Rattle.ckr_desk_turn.proofs.RunningSteps.{going-within}
 use Rattle.ckr_desk_refines.specs.Commits.{HasCommitted, HasWithinRun}
 use Rattle.ckr_desk_refines.specs.SharedSets.{LeavesOthers}
 use Rattle.ckr_desk_refines.proofs.Durable.Continuation.{continued-stays}
-use Rattle.ckr_desk_refines.proofs.Durable.Events.{cancelled-stays, coded-stays, completed-stays, denied-stays, held-stays, refused-stays, step-ended-stays}
-use Rattle.ckr_desk_refines.proofs.Durable.Fellows.{others-cancelled, others-coded, others-completed, others-refused, others-started, others-step-ended}
+use Rattle.ckr_desk_refines.proofs.Durable.Events.{coded-stays, completed-stays, held-stays, quiet-stays, refused-stays, step-ended-stays}
+use Rattle.ckr_desk_refines.proofs.Durable.Fellows.{others-coded, others-completed, others-quiet, others-refused, others-started, others-step-ended}
 use Rattle.ckr_desk_refines.proofs.Durable.Restart.{restarted-stays}
 use Rattle.ckr_desk_refines.proofs.Durable.Start.{selected-stays, started-stays}
 use Rattle.ckr_meaning.specs.EffectiveJob.{OwnedStep}
@@ -62,9 +62,9 @@ selected-committed desk is image had job initiator (suc before) step id comes la
 pub each-committed : (desk : DeskModel) → IsDesk desk → (image : List ℕ) → HasCommitted desk.layout desk.office image → OfEach desk image (IsCommitted desk image)
 each-committed desk is image had = record {
   selected = selected-committed desk is image had;
-  denied = λ job rule name comes later. denied-stays desk.layout desk.office image job rule name None is.kept later.kept had;
+  denied = λ job rule name comes later. quiet-stays desk.layout desk.office image (Denied job rule name) None refl is.kept later.kept had;
   started = λ job step items comes later. started-stays desk.layout desk.office image job step items None is.kept comes.may comes.carried later.kept had;
-  cancelled = λ job step some is_due uncoded comes later. cancelled-stays desk.layout desk.office image job None is.kept later.kept had;
+  cancelled = λ job step some is_due uncoded comes later. quiet-stays desk.layout desk.office image (Cancelled job) None refl is.kept later.kept had;
   step_ended = λ job step rc writes lengths has comes later. step-ended-stays desk.layout desk.office image job step rc writes lengths None is.kept comes.may comes.carried later.kept had has;
   restarted = λ job initiator code checkpoint comes later. restarted-stays desk.layout desk.office image job initiator code checkpoint None is.kept later.kept had;
   held = λ job writes code lengths has. held-committed desk is image had job writes code lengths has;
@@ -139,7 +139,7 @@ module _ (layout : Layout) (old new : JobsView) (before after : List ℕ) (desk 
         (cancelled-running desk stands.is_desk before after records old.running stands.running stands.differ_so job step some is_due uncoded))
         (cancelled-differ desk stands.is_desk before after records old.running stands.running stands.differ_so job step some is_due uncoded)
         (points-behind old new desk stands.is_desk (Cancelled job) job refl stands.points (office_after (Cancelled job, None) desk.office)
-        (cancelled-leaves desk.layout desk.office job stands.is_desk.kept.events) (others-cancelled desk.office job None) moved.points
+        (cancelled-leaves desk.layout desk.office job stands.is_desk.kept.events) (others-quiet desk.office (Cancelled job) None refl) moved.points
         (idle-stands (office_after (Cancelled job, None) desk.office) new.points job (cancelled-idle desk.layout desk.office stands.is_desk.kept.events stands.is_desk.ready job))) committed;
     step_ended = λ job step rc writes lengths has comes later knows moved committed.
         ended-stands layout old new before after desk (StepEnded job step rc writes lengths) job refl stands.layout_is stands.is_desk stands.tables stands.failed stands.differ_so stands.points

@@ -17,7 +17,7 @@ use Rattle.ckr_desk_turn.specs.Invariant.{IsDesk, Keeps}
 use Rattle.ckr_desk_turn.proofs.Select.{purged-keeps, released-keeps, stored-keeps}
 use Rattle.ckr_desk_turn.proofs.Turns.Initiator.{turn-keeps}
 use Rattle.ckr_desk_refines.specs.Commits.{HasCommitted, HasWithinRun}
-use Rattle.ckr_desk_refines.proofs.Durable.Events.{purged-stays, released-stays, submitted-stays}
+use Rattle.ckr_desk_refines.proofs.Durable.Events.{quiet-stays}
 use Rattle.ckr_desk_refines.proofs.Durable.Fellows.{others-coded}
 use Rattle.ckr_desk_refines.proofs.Durable.Restart.{restarted-stays}
 use Rattle.ckr_points.specs.declared.run.RunState.TheVariants.{Held as HeldRun, Queued}
@@ -109,7 +109,7 @@ pub submitted-committed : (layout : Layout) (jobs : JobsView) (before : List ℕ
 submitted-committed layout jobs before desk cards deck stands few some accepted image same =
     let later : IsDesk (submitted (kept_of_stored cards) deck desk) = stored-keeps desk stands.is_desk cards deck few some accepted in
     committed-moves desk.layout (submitted (kept_of_stored cards) deck desk).office before image later.kept same
-    (submitted-stays desk.layout desk.office before (suc (length desk.office.tables.runs)) (kept_of_stored cards) (Some deck) stands.is_desk.kept later.kept stands.committed)
+    (quiet-stays desk.layout desk.office before (Submitted (suc (length desk.office.tables.runs)) (kept_of_stored cards)) (Some deck) refl stands.is_desk.kept later.kept stands.committed)
 
 pub submitted-stands : (layout : Layout) (old new : JobsView) (before after : List ℕ) (desk : DeskModel) (cards : List ℕ) (deck : Job) → StandsForDesk layout old before desk → suc (length desk.office.tables.runs) ≤ 9999999 → 81 ≤ length cards → stored_deck cards ≡ Ok deck
     → HaveMoved (Submitted (suc (length desk.office.tables.runs)) (kept_of_stored cards)) (Some deck) old new → HasSameRecords desk.layout before after → StandsForDesk layout new after (submitted (kept_of_stored cards) deck desk)
@@ -125,7 +125,7 @@ pub purged-committed : (layout : Layout) (jobs : JobsView) (before : List ℕ) (
 purged-committed layout jobs before desk job row stands at queued image same =
     let later : IsDesk (purged job desk) = purged-keeps desk stands.is_desk job row at queued in
     committed-moves desk.layout (purged job desk).office before image later.kept same
-    (purged-stays desk.layout desk.office before job None stands.is_desk.kept later.kept stands.committed)
+    (quiet-stays desk.layout desk.office before (Purged job) None refl stands.is_desk.kept later.kept stands.committed)
 
 pub purged-stands : (layout : Layout) (old new : JobsView) (before after : List ℕ) (desk : DeskModel) (job : ℕ) (row : RunRow) → StandsForDesk layout old before desk → run_of desk.office.tables job ≡ Some row → row.state ≡ Queued
     → HaveMoved (Purged job) None old new → HasSameRecords desk.layout before after → StandsForDesk layout new after (purged job desk)
@@ -140,7 +140,7 @@ pub released-committed : (layout : Layout) (jobs : JobsView) (before : List ℕ)
 released-committed layout jobs before desk job row stands at held image same =
     let later : IsDesk (released job desk) = released-keeps desk stands.is_desk job row at held in
     committed-moves desk.layout (released job desk).office before image later.kept same
-    (released-stays desk.layout desk.office before job None stands.is_desk.kept later.kept stands.committed)
+    (quiet-stays desk.layout desk.office before (Released job) None refl stands.is_desk.kept later.kept stands.committed)
 
 pub release-stands : (layout : Layout) (old new : JobsView) (before after : List ℕ) (desk : DeskModel) (job : ℕ) (row : RunRow) → StandsForDesk layout old before desk → run_of desk.office.tables job ≡ Some row → row.state ≡ HeldRun
     → HaveMoved (Released job) None old new → HasSameRecords desk.layout before after → StandsForDesk layout new after (released job desk)
