@@ -56,16 +56,23 @@ fn disk_file(rt: &HostRuntime, path: &str) -> Option<File> {
     Some(file)
 }
 
-fn main(rt: HostRuntime) -> io::Result<ExitCode> {
-    let mut words = Vec::new(rt.alloc());
-    for word in env::args(&rt)?.skip(1) {
-        words.push(word)?;
+/// Says on standard error what failed, at a status that tells so.
+fn tell_failure(rt: &HostRuntime, status: u8, path: &str, is_open: bool) {
+    if let Some(Failure { of, how }) = failure_at(status, path, is_open) {
+        // Where standard error is closed too, the status alone tells.
+        let _ = eprintln!(rt; "batch_desk: {of}: {how}");
     }
-    let path = disk_path(&words).unwrap_or("");
-    let file = disk_file(&rt, path);
+}
+
+/// Serves standard input on the disk that the words name. The status.
+///
+/// An error: there is no memory for the operators.
+fn serve(rt: &HostRuntime, words: &[String]) -> io::Result<u8> {
+    let path = disk_path(words).unwrap_or("");
+    let file = disk_file(rt, path);
     let is_open = file.is_some();
     let mut operators: Vec<Box<dyn Operator>> = Vec::new(rt.alloc());
-    for script in named_operators(rt.alloc(), &words).as_slice() {
+    for script in named_operators(rt.alloc(), words).as_slice() {
         operators.push(match script {
             Script::Standing => Box::new(rt.alloc(), Standing(Answer::Yes))?,
             Script::Cautious => Box::new(rt.alloc(), Cautious)?,
@@ -76,18 +83,44 @@ fn main(rt: HostRuntime) -> io::Result<ExitCode> {
         })?;
     }
     let mut source = StdSource::new(rt.reader());
-    let mut sink = StdSink::new(io::writer(&rt));
-    let closed = batch_desk(
-        rt.alloc(),
-        &words,
-        &mut source,
-        &mut sink,
-        ReadAhead::new(rt.alloc(), FileDisk::new(file)),
-        operators,
-    );
-    if let Some(Failure { of, how }) = failure_at(closed.status, path, is_open) {
-        // Where standard error is closed too, the status alone tells.
-        let _ = eprintln!(rt; "batch_desk: {of}: {how}");
+    let mut sink = StdSink::new(io::writer(rt));
+    let disk = ReadAhead::new(rt.alloc(), FileDisk::new(file));
+    let closed = batch_desk(rt.alloc(), words, &mut source, &mut sink, disk, operators);
+    tell_failure(rt, closed.status, path, is_open);
+    Ok(closed.status)
+}
+
+/// The words behind the program's own name.
+///
+/// `OutOfMemory`: there is no memory for them. Another error: one isn't UTF-8.
+fn words_of(rt: &HostRuntime) -> io::Result<Vec<String>> {
+    let mut words = Vec::new(rt.alloc());
+    for word in env::args(rt)?.skip(1) {
+        words.push(word)?;
     }
-    Ok(ExitCode::from(closed.status))
+    Ok(words)
+}
+
+/// The status where words can't be had, or operators: a word that isn't UTF-8 is in no command, and else there is no memory.
+fn status_of(error: &io::Error) -> u8 {
+    match error.kind() {
+        io::ErrorKind::InvalidData => 1,
+        _ => 7,
+    }
+}
+
+fn main(rt: HostRuntime) -> ExitCode {
+    let served = match words_of(&rt) {
+        Ok(words) => serve(&rt, &words),
+        Err(error) => Err(error),
+    };
+    let status = match served {
+        Ok(status) => status,
+        Err(error) => {
+            let status = status_of(&error);
+            tell_failure(&rt, status, "", false);
+            status
+        }
+    };
+    ExitCode::from(status)
 }
