@@ -92,7 +92,7 @@ fn serve(rt: &HostRuntime, words: &[String]) -> io::Result<u8> {
 
 /// The words behind the program's own name.
 ///
-/// `OutOfMemory`: there is no memory for them. Another error: one isn't UTF-8.
+/// `InvalidData`: one isn't UTF-8. Another error: there is no memory for them.
 fn words_of(rt: &HostRuntime) -> io::Result<Vec<String>> {
     let mut words = Vec::new(rt.alloc());
     for word in env::args(rt)?.skip(1) {
